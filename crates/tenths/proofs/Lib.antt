@@ -1,0 +1,9 @@
+mod Choosing
+mod Forms
+mod Laws
+mod Linking
+mod Lowest
+mod Missing
+mod Settling
+mod Sweeping
+mod Worked

@@ -1,0 +1,5 @@
+pub mod Differences
+pub mod Examples
+pub mod Relaxing
+pub mod Rows
+pub mod Tenths
