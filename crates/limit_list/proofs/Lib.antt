@@ -1,0 +1,10 @@
+pub mod Spellings
+pub mod Grammars
+pub mod Choosing
+pub mod Listings
+pub mod Mentions
+pub mod Places
+pub mod Stopping
+pub mod Numerals
+pub mod Runs
+pub mod Standing
