@@ -1,0 +1,16 @@
+pub mod Choosing
+pub mod Crowding
+pub mod Fewer
+pub mod Gathering
+pub mod Giving
+pub mod Joining
+pub mod Law
+pub mod Masking
+pub mod Pairing
+pub mod Picking
+pub mod Pigeons
+pub mod Searching
+pub mod Sets
+pub mod Sharing
+pub mod Solving
+pub mod Swap
