@@ -1,0 +1,3 @@
+// Tests of pairs of domains, over Tenths and Marks.
+#[cfg(test)]
+mod tests;

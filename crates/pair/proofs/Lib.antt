@@ -1,0 +1,10 @@
+pub mod Asking
+pub mod Choosing
+pub mod Dealing
+pub mod Following
+pub mod Having
+pub mod Laws
+pub mod Putting
+pub mod Rests
+pub mod Sharing
+pub mod Sifting

@@ -1,0 +1,3 @@
+pub mod Paired
+pub mod Rule
+pub mod Split
