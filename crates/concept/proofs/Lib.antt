@@ -1,0 +1,12 @@
+pub mod Agreement
+pub mod Counting
+pub mod Going
+pub mod Growing
+pub mod Items
+pub mod Passing
+pub mod Places
+pub mod Postfix
+pub mod Refusing
+pub mod Tests
+pub mod Trees
+pub mod Writing

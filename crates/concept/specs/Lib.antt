@@ -1,0 +1,14 @@
+pub mod Agreement
+pub mod Chains
+pub mod Checking
+pub mod Concepts
+pub mod Counts
+pub mod Faults
+pub mod Forests
+pub mod Growing
+pub mod Held
+pub mod Normal
+pub mod Plants
+pub mod Tables
+pub mod Terms
+pub mod Translating
