@@ -1,0 +1,4 @@
+pub mod Below
+pub mod Firsts
+pub mod Saying
+pub mod Rows
