@@ -1,0 +1,5 @@
+pub mod Advance
+pub mod Performing
+pub mod Running
+pub mod Stamps
+pub mod Trials
