@@ -1,4 +1,6 @@
 // How Marks fares on families of problems: what it answers, and with the word `time` how long it takes.
+#![tactic(auto)]
+
 use std::time::Instant;
 use std::{env, io};
 

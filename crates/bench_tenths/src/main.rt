@@ -1,5 +1,7 @@
 // Measures Tenths' solve at its largest size: 512 variables and 256 rows. It prints the answers, and with the argument word
 // `time` how long a solve took.
+#![tactic(auto)]
+
 use domain::lists::{MOST_ROWS, MOST_VARIABLES};
 use domain::{Domain, Outcome, Predicate, Row};
 use std::env;

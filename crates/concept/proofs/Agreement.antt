@@ -1,14 +1,14 @@
 -- The normal form of a concept, and that of its negation, agree with the concept in every proper plant.
-use Rattle.std.proofs.Common.{◌≡◌, ℕ, zero, suc, ◌-◌, ◌<◌, ◌≤◌, Bool, true, false, cond, not, ◌&&◌, ◌||◌, eqb, ltb, leb, ◌⊎◌, List, [], ◌∷◌, length, ℤ, is_some, Some, None, Option, sym, refl, ap, ◌∙◌, subst, ap₂, inl, inr, arith}
-use Rattle.std.proofs.lemmas.Bool.{and_parts, or_cases, cond-true, cond-false, eqb-true, leb-true, lt-ltb, le-ltb, eq-eqb}
+use Rattle.std.proofs.Common.{◌≡◌, ℕ, ◌-◌, ◌<◌, Bool, true, false, not, ◌&&◌, ◌||◌, eqb, ltb, leb, ◌⊎◌, List, [], ◌∷◌, length, ℤ, is_some, Some, None, Option, sym, refl, ap, ◌∙◌, ap₂, inl, inr, arith}
+use Rattle.std.proofs.lemmas.Bool.{and_parts, or_cases, cond-true, cond-false, eqb-true, leb-true, lt-ltb, le-ltb}
 use Rattle.domain.specs.declared.predicate.Predicate.{Predicate}
 use Rattle.domain.specs.Meaning.{Meaning, Lawful, known, tested}
 use Rattle.domain.proofs.Complements.{tested_turned}
 use Rattle.concept.specs.Concepts.{Concept, kind_at, is_link, is_value, link_chain, value_chain, end_kind, leads_to_kind, is_empty, fitting, formed}
 use Rattle.concept.specs.Concepts.Concept.{atom, neg, conj, disj, some, all, has, lacks, holds, meets, parts}
-use Rattle.concept.specs.Plants.{Plant, Proper, typed, any_below, all_below, onward, walk, reading, leads_to, related, defined, of_one, of_two, measured, inside}
+use Rattle.concept.specs.Plants.{Plant, Proper, onward, walk, reading, leads_to, related, defined, of_one, of_two, inside}
 use Rattle.concept.specs.Normal.{undefined, not_holds, normal, negated}
-use Rattle.concept.specs.Agreement.{Agrees, Agreement}
+use Rattle.concept.specs.Agreement.{Agreement}
 use Rattle.concept.proofs.Tests.{not_not, not_and, not_or, not_false_or, or_false, any_same, all_same, all_not, any_not, all_true, all_at}
 
 some_onward : (o : Option ℕ) → is_some (onward o (λ x. Some x)) ≡ is_some o

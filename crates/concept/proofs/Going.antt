@@ -1,6 +1,6 @@
 -- The check on its way through a table: what is left of the table decides the answer, and the terms so far are those of the
 -- nodes so far.
-use Rattle.std.proofs.Common.{◌≡◌, ℕ, ◌+◌, ◌<◌, ◌≤◌, true, List, [], ◌∷◌, ◌++◌, map, length, get_or, take, drop, set, Some, None, sym, ap, ◌∙◌, ap₂, arith}
+use Rattle.std.proofs.Common.{◌≡◌, ℕ, ◌+◌, ◌<◌, true, List, [], ◌∷◌, ◌++◌, map, length, get_or, take, drop, set, Some, None, sym, ap, ◌∙◌, ap₂, arith}
 use Rattle.std.proofs.lemmas.List.{length-set, take_all, take_more_set, map_more}
 use Rattle.domain.specs.Meaning.{Meaning, Lawful}
 use Rattle.concept.specs.declared.checked.Checked.{Checked}

@@ -9,10 +9,20 @@ use Rattle.concept.proofs.Postfix.{roots_push, roots_front, ordered_lower, order
 
 -- what the ghost fields of a forest ask, from the order alone
 pub fields : (xs : List Normal) (n : ℕ) → n ≤ 256 → n ≤ length xs → is_some (roots (take n xs)) ≡ true
-    → (few : n ≤ 256) × ((filled : length (take n xs) ≡ n)
-    × ((ordered : is_some (roots (take n xs)) ≡ true) × ((children_lower 0 (take n xs) ≡ true) × (((c : ℕ) → parents (take n xs) c ≤ 1) × Unit {0}))))
-fields xs n few long ordered =
-    (few, (length-take-le n xs long, (ordered, (ordered_lower (take n xs) ordered, (ordered_single (take n xs) ordered, tt)))))
+    → record {
+      few : n ≤ 256;
+      filled : length (take n xs) ≡ n;
+      ordered : is_some (roots (take n xs)) ≡ true;
+      lower : children_lower 0 (take n xs) ≡ true;
+      single : (c : ℕ) → parents (take n xs) c ≤ 1;
+    }
+fields xs n few long ordered = record {
+  few = few;
+  filled = length-take-le n xs long;
+  ordered = ordered;
+  lower = ordered_lower (take n xs) ordered;
+  single = ordered_single (take n xs) ordered;
+}
 
 pub length_items : (f : Forest) → length (items f) ≡ f.len
 length_items f = f.filled

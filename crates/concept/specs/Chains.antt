@@ -1,5 +1,5 @@
 -- Chains as they are written, in three numbers.
-use Rattle.std.specs.Prelude.{ℕ, Bool, true, false, cond, ◌&&◌, List, [], ◌∷◌, ◌==◌}
+use Rattle.std.specs.Prelude.{ℕ, Bool, true, cond, ◌&&◌, List, [], ◌∷◌, ◌==◌}
 use Rattle.concept.specs.declared.node.Chain.{Chain}
 use Rattle.concept.specs.Concepts.{link_chain, value_chain, is_empty}
 

@@ -1,5 +1,5 @@
 -- The forest: normal forms as trees in one table of nodes.
-use Rattle.std.specs.Prelude.{◌≡◌, ℕ, ◌+◌, ◌<◌, Bool, true, false, cond, not, ◌&&◌, List, [], ◌∷◌, ◌++◌, length, take, Some, None, Option, ◌==◌, nat_lt, slice_index_or}
+use Rattle.std.specs.Prelude.{◌≡◌, ℕ, ◌+◌, Bool, true, cond, ◌&&◌, List, [], ◌∷◌, ◌++◌, length, take, Some, None, Option, ◌==◌, nat_lt, slice_index_or}
 use Rattle.concept.specs.declared.normal.Normal.{Normal}
 use Rattle.concept.specs.declared.normal.Normal.TheVariants.{Atom, NotAtom, And, Or, Exists, Forall, Has, Lacks, Holds, Meets, Parts}
 use Rattle.concept.specs.Concepts.{Concept}

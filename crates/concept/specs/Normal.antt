@@ -1,6 +1,6 @@
 -- Normal forms: negation stands before names only. The normal form of a concept and that of its negation are worked out from
 -- each other.
-use Rattle.std.specs.Prelude.{ℕ, ◌+◌, max, Bool, true, false, cond, List, [], ◌∷◌, ◌==◌, nat_le}
+use Rattle.std.specs.Prelude.{ℕ, ◌+◌, max, cond, List, [], ◌∷◌, ◌==◌, nat_le}
 use Rattle.domain.specs.declared.predicate.Predicate.{Predicate}
 use Rattle.domain.specs.Meaning.{Meaning}
 use Rattle.concept.specs.Concepts.{Concept}

@@ -1,5 +1,5 @@
 -- Concept tables: what a table says, and when it is refused.
-use Rattle.std.specs.Prelude.{ℕ, ◌+◌, ◌-◌, Bool, true, false, cond, not, ◌&&◌, ◌||◌, List, [], ◌∷◌, length, Some, None, Option, ◌==◌, nat_le, nat_lt, slice_index_or}
+use Rattle.std.specs.Prelude.{ℕ, ◌+◌, ◌-◌, Bool, false, cond, ◌&&◌, ◌||◌, List, [], ◌∷◌, length, Some, None, Option, ◌==◌, nat_le, nat_lt, slice_index_or}
 use Rattle.domain.specs.declared.predicate.Predicate.{Predicate}
 use Rattle.domain.specs.declared.refusal.Refusal.TheVariants.{Unknown as UnknownPredicate}
 use Rattle.domain.specs.Meaning.{Meaning}

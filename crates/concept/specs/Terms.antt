@@ -1,5 +1,5 @@
 -- Checked tables: the normal form that each place stands for, and that of its negation.
-use Rattle.std.specs.Prelude.{ℕ, ◌+◌, ◌-◌, ◌^◌, min, Bool, true, false, cond, ◌&&◌, List, [], ◌∷◌, length, ◌==◌, nat_lt, slice_index_or}
+use Rattle.std.specs.Prelude.{ℕ, ◌+◌, Bool, true, cond, ◌&&◌, List, [], ◌∷◌, ◌==◌, nat_lt, slice_index_or}
 use Rattle.concept.specs.declared.node.Chain.{Chain}
 use Rattle.concept.specs.declared.term.Constraint.{Constraint}
 use Rattle.concept.specs.declared.term.Sign.{Sign}

@@ -29,8 +29,8 @@ fn check_node<D: Domain>(
     place: usize,
     node: Node,
 ) -> Result<Term, TableFault>
-    ensures fault { result_err result ≡ node_fault (meaning domain.now) kinds.now place node }
-    ensures told { IfOk result (λ t. t ≡ term_of (meaning domain.now) kinds.now node) }
+    ensures fault { result_err result ≡ node_fault (D.meaning domain.now) kinds.now place node }
+    ensures told { IfOk result (λ t. t ≡ term_of (D.meaning domain.now) kinds.now node) }
 {
     if !is_whole(kinds, place, node) {
         return Err(TableFault::Broken(place));
@@ -44,8 +44,8 @@ fn check_node<D: Domain>(
 // Checks a table of nodes over a domain, where `kinds` are the kinds of the value features from 128 on. The first fault is
 // told: the length of the table, then node by node from place 0.
 pub fn check<D: Domain>(domain: &D, kinds: &[u32], table: &[Node]) -> Result<Checked, TableFault>
-    ensures fault { result_err result ≡ table_fault (meaning domain.now) kinds.now table.now }
-    ensures passed { IfOk result (Passes (meaning domain.now) kinds.now table.now) }
+    ensures fault { result_err result ≡ table_fault (D.meaning domain.now) kinds.now table.now }
+    ensures passed { IfOk result (Passes (D.meaning domain.now) kinds.now table.now) }
 {
     if !length_fits(table.len()) {
         return Err(TableFault::Length);

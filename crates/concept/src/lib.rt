@@ -1,5 +1,7 @@
 // Concepts: what a rule says of a thing. Tables of nodes are checked (`check`), counted (`count`) and written as normal forms
 // into a forest (`grow`); what all this means is in specs/.
+#![tactic(auto)]
+
 ghost use Rattle.concept.specs.Agreement.{Agreement};
 ghost use Rattle.concept.specs.Tables.{concept_of, table_fault};
 ghost use Rattle.concept.specs.Terms.{forms};

@@ -38,8 +38,8 @@ fn constraint_of<D: Domain>(
     kinds: &[u32],
     node: Node,
 ) -> Result<Constraint, PredicateFault>
-    ensures fits { result_err result ≡ misfit (meaning domain.now) (predicate_at kinds.now node) (is_empty (steps node.v)) }
-    ensures told { IfOk result (λ k. k ≡ constraint_of (meaning domain.now) kinds.now node) }
+    ensures fits { result_err result ≡ misfit (D.meaning domain.now) (predicate_at kinds.now node) (is_empty (steps node.v)) }
+    ensures told { IfOk result (λ k. k ≡ constraint_of (D.meaning domain.now) kinds.now node) }
 {
     let predicate = predicate_at(kinds, node);
     let complement = domain.complement(predicate)?;
@@ -63,8 +63,8 @@ pub(crate) fn term_of<D: Domain>(
     kinds: &[u32],
     node: Node,
 ) -> Result<Term, PredicateFault>
-    ensures fits { result_err result ≡ unfit (meaning domain.now) kinds.now node }
-    ensures told { IfOk result (λ t. t ≡ term_of (meaning domain.now) kinds.now node) }
+    ensures fits { result_err result ≡ unfit (D.meaning domain.now) kinds.now node }
+    ensures told { IfOk result (λ t. t ≡ term_of (D.meaning domain.now) kinds.now node) }
 {
     match node.form {
         1 => Ok(Term::Atom(node.name)),

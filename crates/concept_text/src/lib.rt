@@ -1,4 +1,6 @@
 // Concept tables and plants as a technician writes them down: reading them, and writing normal forms.
+#![tactic(auto)]
+
 mod bytes;
 pub mod fault;
 mod keys;

@@ -1,6 +1,8 @@
 // Reads a concept table, and a small plant if there is one, from the standard input. Prints the normal form of the table's concept,
 // its counts, and the things of the plant that lie in the concept. A line that cannot be read, and a table that is refused, end
 // with status 1.
+#![tactic(auto)]
+
 use anyhow::anyhow;
 use concept::check::check;
 use concept::checked::Checked;

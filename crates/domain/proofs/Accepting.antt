@@ -1,7 +1,7 @@
 -- No refusal applies exactly when the lists are in order.
-use Rattle.std.proofs.Common.{◌≡◌, ℕ, ◌+◌, ◌<◌, ◌≤◌, Bool, true, false, ◌||◌, ltb, List, [], ◌∷◌, length, Some, None, Option, refl, ap, ◌∙◌, arith}
+use Rattle.std.proofs.Common.{◌≡◌, ℕ, ◌+◌, Bool, true, false, ◌||◌, ltb, List, [], ◌∷◌, length, Some, None, Option, refl, arith}
 use Rattle.std.proofs.lemmas.Bool.{ltb-false, le-ltb, or_parts, or_from}
-use Rattle.std.specs.List.{AllByRecursion as All}
+use Rattle.std.specs.List.{AllByRecursion}
 use Rattle.domain.specs.declared.predicate.Row.{Row}
 use Rattle.domain.specs.declared.refusal.Refusal.{Refusal}
 use Rattle.domain.specs.declared.refusal.Refusal.TheVariants.{TooMany, UnknownKind, UnfitRow, ShortBuffer}
@@ -9,15 +9,15 @@ use Rattle.domain.specs.Meaning.{Meaning}
 use Rattle.domain.specs.Solving.{first_failing, else_at, else_if, fit, refusal_of, Accepted}
 
 module _ {A : Type 0} (test : A → Bool) where
-  all_pass : (xs : List A) (i : ℕ) → first_failing test i xs ≡ None → All (λ x. test x ≡ true) xs
+  all_pass : (xs : List A) (i : ℕ) → first_failing test i xs ≡ None → AllByRecursion (λ x. test x ≡ true) xs
   all_pass [] i e = tt
   all_pass (x ∷ xs) i e = go (test x) refl (λ h. all_pass xs (i + 1) h)
     where
-      go : (b : Bool) → test x ≡ b → (first_failing test (i + 1) xs ≡ None → All (λ y. test y ≡ true) xs) → All (λ y. test y ≡ true) (x ∷ xs)
+      go : (b : Bool) → test x ≡ b → (first_failing test (i + 1) xs ≡ None → AllByRecursion (λ y. test y ≡ true) xs) → AllByRecursion (λ y. test y ≡ true) (x ∷ xs)
       go true t more = (t, more (rw t at e))
       go false t more = let z : ◌≡◌ {A = ℕ} 0 1 = cc (rw t at e) in absurd (omega arith)
 
-  none_fails : (xs : List A) (i : ℕ) → All (λ x. test x ≡ true) xs → first_failing test i xs ≡ None
+  none_fails : (xs : List A) (i : ℕ) → AllByRecursion (λ x. test x ≡ true) xs → first_failing test i xs ≡ None
   none_fails [] i h = refl
   none_fails (x ∷ xs) i h = rw h.0 (none_fails xs (i + 1) h.1)
 

@@ -1,6 +1,6 @@
 -- Choices of values for a list of variables, and what `solve` promises.
 use Rattle.std.specs.Prelude.{◌≡◌, ℕ, ◌+◌, ◌<◌, ◌≤◌, Bool, true, false, cond, ◌&&◌, ◌||◌, List, [], ◌∷◌, length, take, drop, ℤ, pos, Some, None, Ok, Err, Option, Result, ◌==◌, nat_lt, slice_index, slice_index_or}
-use Rattle.std.specs.List.{AllByRecursion as All}
+use Rattle.std.specs.List.{AllByRecursion}
 use Rattle.domain.specs.declared.predicate.Row.{Row}
 use Rattle.domain.specs.declared.predicate.Outcome.{Outcome}
 use Rattle.domain.specs.declared.predicate.Outcome.TheVariants.{Unsolvable, Solved}
@@ -16,7 +16,7 @@ Kept m vs r = tested m r.predicate (slice_index_or vs r.first (pos 0)) (slice_in
 pub record Chosen (m : Meaning) (kinds : List ℕ) (rows : List Row) (vs : List ℤ) : Type 0 where
   pub one_each : length vs ≡ length kinds
   pub of_kind : (i : ℕ) → i < length kinds → m.within (slice_index kinds i) (slice_index_or vs i (pos 0)) ≡ true
-  pub kept : All (Kept m vs) rows
+  pub kept : AllByRecursion (Kept m vs) rows
 
 -- the place names a variable of this kind
 abbrev pub names : List ℕ → ℕ → ℕ → Bool
@@ -52,8 +52,8 @@ refusal_of m kinds rows room =
 pub record Accepted (m : Meaning) (kinds : List ℕ) (rows : List Row) (room : ℕ) : Type 0 where
   pub few_rows : length rows ≤ 256
   pub few_variables : length kinds ≤ 512
-  pub known_kinds : All (λ k. m.knows k ≡ true) kinds
-  pub fit_rows : All (λ r. fit m kinds r ≡ true) rows
+  pub known_kinds : AllByRecursion (λ k. m.knows k ≡ true) kinds
+  pub fit_rows : AllByRecursion (λ r. fit m kinds r ≡ true) rows
   pub enough_room : length kinds ≤ room
 
 -- what `solve` promises of its answer and of the buffer, before and after

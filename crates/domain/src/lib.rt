@@ -1,4 +1,6 @@
 // The interface of a concrete domain: what it means, and the five functions by which it is used.
+#![tactic(auto)]
+
 ghost use Rattle.std.specs.Prelude.{◌≡◌, ℕ, Ok, Err, OnErr};
 ghost use Rattle.domain.specs.Meaning.{Meaning, Lawful, tested, sample_of, complement_of};
 ghost use Rattle.domain.specs.Solving.{Solves};

@@ -29,8 +29,8 @@ pub fn check_lists<W: Words>(
     rows: &[Row],
     room: usize,
 ) -> Result<(), Refusal>
-    ensures first { MatchResult result (λ _. refusal_of (spoken words.now) kinds.now rows.now room ≡ None) (λ e. refusal_of (spoken words.now) kinds.now rows.now room ≡ Some e) }
-    ensures accepted { OnOk result (Accepted (spoken words.now) kinds.now rows.now room) }
+    ensures first { MatchResult result (λ _. refusal_of (W.spoken words.now) kinds.now rows.now room ≡ None) (λ e. refusal_of (W.spoken words.now) kinds.now rows.now room ≡ Some e) }
+    ensures accepted { OnOk result (Accepted (W.spoken words.now) kinds.now rows.now room) }
 {
     if too_many(rows.len(), kinds.len()) {
         return Err(Refusal::TooMany);
@@ -54,7 +54,7 @@ fn too_many(rows: usize, variables: usize) -> bool
 }
 
 fn first_unknown_kind<W: Words>(words: &W, kinds: &[u32]) -> Option<usize>
-    ensures { result ≡ first_failing (spoken words.now).knows 0 kinds.now }
+    ensures { result ≡ first_failing (W.spoken words.now).knows 0 kinds.now }
 {
     for (i, kind) in kinds.iter().enumerate() {
         if !words.has_kind(*kind) {
@@ -65,7 +65,7 @@ fn first_unknown_kind<W: Words>(words: &W, kinds: &[u32]) -> Option<usize>
 }
 
 fn first_unfit_row<W: Words>(words: &W, kinds: &[u32], rows: &[Row]) -> Option<usize>
-    ensures { result ≡ first_failing (fit (spoken words.now) kinds.now) 0 rows.now }
+    ensures { result ≡ first_failing (fit (W.spoken words.now) kinds.now) 0 rows.now }
 {
     for (i, row) in rows.iter().enumerate() {
         if !row_fits(words, kinds, *row) {
@@ -76,7 +76,7 @@ fn first_unfit_row<W: Words>(words: &W, kinds: &[u32], rows: &[Row]) -> Option<u
 }
 
 fn row_fits<W: Words>(words: &W, kinds: &[u32], row: Row) -> bool
-    ensures { result ≡ fit (spoken words.now) kinds.now row }
+    ensures { result ≡ fit (W.spoken words.now) kinds.now row }
 {
     let kind = row.predicate.kind;
     match words.places(row.predicate) {

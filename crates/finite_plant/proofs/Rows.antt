@@ -1,5 +1,5 @@
 -- Answers row by row: 64 to a place, one for each thing.
-use Rattle.std.proofs.Common.{◌≡◌, ℕ, ◌+◌, ◌-◌, ◌*◌, ◌<◌, ◌≤◌, Bool, true, false, ◌≢◌, List, [], ◌∷◌, ◌++◌, length, get_or, take, drop, set, sym, ap, ◌∙◌, subst, ⊎_elim, arith, get_or-set_other, get_or-set_same, below_more}
+use Rattle.std.proofs.Common.{◌≡◌, ℕ, ◌+◌, ◌-◌, ◌*◌, ◌<◌, ◌≤◌, Bool, false, ◌≢◌, List, [], ◌∷◌, ◌++◌, length, get_or, take, drop, set, sym, ap, ◌∙◌, subst, ⊎_elim, arith, get_or-set_other, get_or-set_same, below_more}
 use Rattle.std.proofs.lemmas.List.{length-set, length_push, get_or_append_left, get_or_push, get_or-take, get_or-drop, length-take-le, take_more, take_all}
 use Rattle.std.proofs.lemmas.Bool.{cases_lt}
 use Rattle.domain.specs.Meaning.{Meaning}
@@ -7,7 +7,7 @@ use Rattle.concept.specs.declared.node.Node.{Node}
 use Rattle.concept.specs.Concepts.{Concept}
 use Rattle.concept.specs.Concepts.Concept.{atom}
 use Rattle.concept.specs.Plants.{Plant, inside}
-use Rattle.concept.specs.Tables.{below_at, concept_of, concepts, reads}
+use Rattle.concept.specs.Tables.{concept_of, concepts, reads}
 use Rattle.concept.proofs.Growing.{grow_push, length_grow}
 use Rattle.finite_plant.specs.Answers.{Told}
 

@@ -1,5 +1,5 @@
 -- What a node of each form says.
-use Rattle.std.proofs.Common.{◌≡◌, ℕ, ◌≤◌, false, eqb, List, refl, arith, lit≤}
+use Rattle.std.proofs.Common.{◌≡◌, ℕ, ◌≤◌, false, eqb, List, arith, lit≤}
 use Rattle.std.proofs.lemmas.Bool.Decides.{nat_tests}
 use Rattle.concept.specs.declared.node.Node.{Node}
 use Rattle.concept.specs.Chains.{steps}

@@ -1,5 +1,5 @@
 -- The answers for the places of a table, 64 to a place, one for each thing.
-use Rattle.std.specs.Prelude.{◌≡◌, ℕ, ◌+◌, ◌*◌, ◌<◌, ◌≤◌, Bool, true, false, ◌⊎◌, List, length, slice_index_or}
+use Rattle.std.specs.Prelude.{◌≡◌, ℕ, ◌+◌, ◌*◌, ◌<◌, ◌≤◌, Bool, false, ◌⊎◌, List, length, slice_index_or}
 use Rattle.domain.specs.Meaning.{Meaning}
 use Rattle.concept.specs.Concepts.{Concept}
 use Rattle.concept.specs.Plants.{Plant, inside}

@@ -1,5 +1,5 @@
 -- The plant that data stands for.
-use Rattle.std.specs.Prelude.{ℕ, Bool, true, false, cond, ◌&&◌, List, [], ◌∷◌, ℤ, is_some, Some, None, vec_items, Option, ◌==◌}
+use Rattle.std.specs.Prelude.{ℕ, Bool, cond, ◌&&◌, List, [], ◌∷◌, ℤ, is_some, Some, None, vec_items, Option, ◌==◌}
 use Rattle.concept.specs.Plants.{Plant}
 use Rattle.finite_plant.specs.declared.plant.FinitePlant.{FinitePlant}
 use Rattle.finite_plant.specs.declared.plant.Link.{Link}

@@ -28,7 +28,7 @@ fn answer<D: Domain>(
 )
     requires room { 64 * places + 64 ≤ length answers.old }
     requires few { plant.now.count ≤ 64 }
-    ensures { (cs : List Concept) → length cs ≡ places → Told (meaning domain.now) (plant_of plant.now) cs answers.old → Told (meaning domain.now) (plant_of plant.now) (cs ++ (reads kinds.now cs node ∷ [])) answers.new }
+    ensures { (cs : List Concept) → length cs ≡ places → Told (D.meaning domain.now) (plant_of plant.now) cs answers.old → Told (D.meaning domain.now) (plant_of plant.now) (cs ++ (reads kinds.now cs node ∷ [])) answers.new }
 {
     for thing in 0..plant.count {
         let inside = lies(domain, kinds, plant, answers, places, node, thing);
@@ -44,7 +44,7 @@ pub fn members<D: Domain>(
     table: &[Node],
     plant: &FinitePlant,
 ) -> Option<[bool; 64]>
-    ensures { MatchOption result (Unfit (length table.now) plant.now.count) (Members (meaning domain.now) (plant_of plant.now) (concept_of kinds.now table.now)) }
+    ensures { MatchOption result (Unfit (length table.now) plant.now.count) (Members (D.meaning domain.now) (plant_of plant.now) (concept_of kinds.now table.now)) }
 {
     if table.len() == 0 || table.len() > MOST_TERMS || plant.count as usize > MOST_THINGS {
         return None;

@@ -1,4 +1,6 @@
 // Small plants written out as data, and which of their things lie in a concept.
+#![tactic(auto)]
+
 mod answering;
 mod entries;
 mod lies;

@@ -22,7 +22,7 @@ fn holds_of<D: Domain>(
     node: Node,
     thing: u32,
 ) -> bool
-    ensures { result ≡ inside (meaning domain.now) (plant_of plant.now) (holds (predicate_at kinds.now node) (steps node.u) (steps node.v)) thing }
+    ensures { result ≡ inside (D.meaning domain.now) (plant_of plant.now) (holds (predicate_at kinds.now node) (steps node.u) (steps node.v)) thing }
 {
     let predicate = Predicate {
         kind: node.u.end_kind(kinds),
@@ -62,7 +62,7 @@ pub(crate) fn lies<D: Domain>(
     requires room { 64 * places ≤ length answers.now }
     requires few { plant.now.count ≤ 64 }
     requires among { thing < plant.now.count }
-    ensures { (cs : List Concept) → length cs ≡ places → Told (meaning domain.now) (plant_of plant.now) cs answers.now → result ≡ inside (meaning domain.now) (plant_of plant.now) (reads kinds.now cs node) thing }
+    ensures { (cs : List Concept) → length cs ≡ places → Told (D.meaning domain.now) (plant_of plant.now) cs answers.now → result ≡ inside (D.meaning domain.now) (plant_of plant.now) (reads kinds.now cs node) thing }
 {
     match node.form {
         1 => plant.is_named(node.name, thing),

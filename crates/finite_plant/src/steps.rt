@@ -85,7 +85,7 @@ pub(crate) fn measured<D: Domain>(
     first: Option<i32>,
     second: Option<i32>,
 ) -> bool
-    ensures { result ≡ measures (meaning domain.now) predicate first second }
+    ensures { result ≡ measures (D.meaning domain.now) predicate first second }
 {
     let Some(x) = first else {
         return false;

@@ -1,16 +1,15 @@
 -- The definitions over histories go step by step.
-use Rattle.std.proofs.Common.{◌≡◌, ℕ, suc, ◌+◌, ◌-◌, ◌<◌, ◌≤◌, Bool, true, false, cond, not, ◌&&◌, ◌||◌, eqb, ltb, ◌⊎◌, List, [], ◌∷◌, ◌++◌, map, reverse, length, get_or, take, Some, None, Ok, Err, Option, Result, sym, refl, ap, ◌∙◌, ap₂, inl, inr, add-one, arith}
+use Rattle.std.proofs.Common.{◌≡◌, ℕ, suc, ◌+◌, ◌-◌, ◌<◌, ◌≤◌, Bool, true, false, ◌&&◌, ◌||◌, eqb, ltb, ◌⊎◌, List, [], ◌∷◌, ◌++◌, map, reverse, length, get_or, take, Some, None, Ok, Err, sym, refl, ap, ◌∙◌, ap₂, inl, inr, add-one, arith}
 use mathlib.Core.List.{reverse-cons}
 use Rattle.std.proofs.lemmas.List.{take_all, take-map, map_push, length-map, length-reverse}
-use Rattle.std.proofs.lemmas.Bool.{eqb-true, eq-eqb, ne_eqb, ltb-true, le-ltb, cond-true, cond-false, and_parts, or_cases}
+use Rattle.std.proofs.lemmas.Bool.{eqb-true, eq-eqb, ne_eqb, le-ltb, cond-true, cond-false, and_parts, or_cases}
 use Rattle.domain.specs.Meaning.{Meaning}
-use Rattle.domain.specs.Solving.{first_failing}
 use Rattle.sheet.specs.declared.trial.Trial.{Trial}
 use Rattle.sheet.specs.Statements.{Statement}
-use Rattle.sheet.specs.Views.{View, with_statement, with_trial, kept, kept_at, dropped, dropped_at, no_trial, cut_to, trial_place}
-use Rattle.history.specs.Histories.{Event, History, Accepted, opened, is_open, after_closing, before_trial, in_force, objects_set, kinds_set}
+use Rattle.sheet.specs.Views.{View, with_statement, with_trial, kept, kept_at, dropped, dropped_at, no_trial, trial_place}
+use Rattle.history.specs.Histories.{History, Accepted, opened, is_open, after_closing, before_trial, in_force, objects_set, kinds_set}
 use Rattle.history.specs.Histories.Event.{set_up, state, link, set_apart, compare, open_trial, keep, drop}
-use Rattle.history.specs.Views.{kept_statement, trials_up_to, mark_of, view_of, after}
+use Rattle.history.specs.Views.{kept_statement, trials_up_to, mark_of, view_of}
 use Rattle.history.specs.Steps.{Stepwise}
 use Rattle.history.proofs.Stamps.{all_before, before_both, in_force_stamped, oldest_first}
 use Rattle.history.proofs.Trials.{same_trials, take_front, place_found, place_missing, mark_found, closed_trials}

@@ -1,9 +1,9 @@
 -- Lists of open trials, rising by number.
-use Rattle.std.proofs.Common.{◌≡◌, ℕ, zero, suc, ◌+◌, ◌-◌, ◌<◌, ◌≤◌, Bool, true, false, cond, not, ◌&&◌, ◌||◌, eqb, ltb, ◌⊎◌, List, [], ◌∷◌, ◌++◌, length, get_or, take, Some, None, Option, sym, refl, ap, ◌∙◌, ap₂, inl, inr, arith}
-use Rattle.std.proofs.lemmas.List.{take_at, append-nil, append_assoc, length-append, get_or_at}
-use Rattle.std.proofs.lemmas.Bool.{cases_lt, cases_eq, cases_Bool, eq-eqb, ne_eqb, lt-ltb, le-ltb, cond-true, cond-false}
+use Rattle.std.proofs.Common.{◌≡◌, ℕ, zero, suc, ◌+◌, ◌-◌, ◌<◌, ◌≤◌, Bool, true, false, cond, not, ◌&&◌, eqb, ltb, ◌⊎◌, List, [], ◌∷◌, ◌++◌, length, get_or, take, Some, None, sym, refl, ap, ◌∙◌, ap₂, inl, inr, arith}
+use Rattle.std.proofs.lemmas.List.{take_at, append-nil, append_assoc, get_or_at}
+use Rattle.std.proofs.lemmas.Bool.{cases_eq, eq-eqb, ne_eqb, lt-ltb, le-ltb, cond-true, cond-false}
 use Rattle.std.proofs.ByRecursion.{All-append}
-use Rattle.std.specs.List.{AllByRecursion as All}
+use Rattle.std.specs.List.{AllByRecursion}
 use Rattle.domain.specs.Solving.{first_failing}
 use Rattle.sheet.specs.declared.trial.Trial.{Trial}
 use Rattle.history.specs.Views.{trials_up_to}
@@ -49,7 +49,7 @@ module _ (test : ℕ → Bool) (mark : ℕ → ℕ) where
       let p = front k n h in ap (take (length (trials_up_to test mark k))) p.1 ∙ take_at (trials_up_to test mark k) p.0 _ refl
 
   -- no trial up to n has the number a
-  other_numbers : (a n : ℕ) → (n < a) ⊎ (test a ≡ false) → All (λ (t : Trial). not (eqb t.number a) ≡ true) (trials_up_to test mark n)
+  other_numbers : (a n : ℕ) → (n < a) ⊎ (test a ≡ false) → AllByRecursion (λ (t : Trial). not (eqb t.number a) ≡ true) (trials_up_to test mark n)
   other_numbers a zero h = tt
   other_numbers a (suc n) h =
       All-append (λ (t : Trial). not (eqb t.number a) ≡ true) (trials_up_to test mark n) (one_if test mark (suc n)) (other_numbers a n (less h)) (here (test (suc n)) refl h)
@@ -59,7 +59,7 @@ module _ (test : ℕ → Bool) (mark : ℕ → ℕ) where
       less (inr e) = inr e
 
       here : (b : Bool) → test (suc n) ≡ b → (suc n < a) ⊎ (test a ≡ false)
-          → All (λ (t : Trial). not (eqb t.number a) ≡ true) (cond b (record { number = suc n; mark = mark (suc n) } ∷ []) [])
+          → AllByRecursion (λ (t : Trial). not (eqb t.number a) ≡ true) (cond b (record { number = suc n; mark = mark (suc n) } ∷ []) [])
       here false e d = tt
       here true e (inl l) = let ne : suc n ≡ a → ⊥ = λ q. omega arith in (ap not (ne_eqb (suc n) a ne), tt)
       here true e (inr f) =
@@ -67,7 +67,7 @@ module _ (test : ℕ → Bool) (mark : ℕ → ℕ) where
           (ap not (ne_eqb (suc n) a ne), tt)
 
 -- searching a list of which the front does not fail
-passing : (p : Trial → Bool) (i : ℕ) (xs ys : List Trial) → All (λ t. p t ≡ true) xs → first_failing p i (xs ++ ys) ≡ first_failing p (i + length xs) ys
+passing : (p : Trial → Bool) (i : ℕ) (xs ys : List Trial) → AllByRecursion (λ t. p t ≡ true) xs → first_failing p i (xs ++ ys) ≡ first_failing p (i + length xs) ys
 passing p i [] ys h = ap (λ k. first_failing p k ys) (omega arith)
 passing p i (x ∷ xs) ys h =
     cond-true (p x) _ _ h.0 ∙ (passing p (i + 1) xs ys h.1 ∙ ap (λ k. first_failing p k ys) (omega arith))

@@ -1,5 +1,5 @@
 -- Histories of one sheet: the calls that were made on it, with their answers, the newest first.
-use Rattle.std.specs.Prelude.{ℕ, zero, suc, ◌+◌, Bool, true, false, cond, ◌&&◌, ◌||◌, ltb, List, [], ◌∷◌, ◌++◌, map, reverse, length, ℤ, Some, None, Ok, Err, filter, Option, Result, ◌==◌, nat_lt}
+use Rattle.std.specs.Prelude.{ℕ, ◌+◌, Bool, true, false, cond, ◌&&◌, ◌||◌, ltb, List, [], ◌∷◌, ℤ, Some, None, Ok, Err, filter, Option, Result, ◌==◌, nat_lt}
 use Rattle.concept.specs.declared.node.Node.{Node}
 use Rattle.concept.specs.Concepts.{kind_at}
 use Rattle.concept.specs.Tables.{concept_of}

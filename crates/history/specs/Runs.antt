@@ -1,5 +1,5 @@
 -- What one performed call, and a whole run, promise.
-use Rattle.std.specs.Prelude.{◌≡◌, ℕ, ◌+◌, ◌≤◌, List, [], vec_items}
+use Rattle.std.specs.Prelude.{◌≡◌, List, [], vec_items}
 use Rattle.domain.specs.Meaning.{Meaning}
 use Rattle.sheet.specs.declared.sheet.Sheet.{Sheet}
 use Rattle.sheet.specs.Showing.{view}

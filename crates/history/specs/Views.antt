@@ -1,8 +1,7 @@
 -- What a sheet holds after a history, and which answer of each call is the right one.
-use Rattle.std.specs.Prelude.{◌≡◌, ℕ, zero, suc, ◌+◌, ◌*◌, Bool, true, false, cond, List, [], ◌∷◌, ◌++◌, map, reverse, length, Some, None, Ok, Err, Option, Result}
+use Rattle.std.specs.Prelude.{ℕ, zero, suc, Bool, cond, List, [], ◌∷◌, ◌++◌, map, reverse, length, Some, None, Ok, Err}
 use Rattle.domain.specs.Meaning.{Meaning}
 use Rattle.concept.specs.Normal.{normal}
-use Rattle.sheet.specs.declared.refusal.Refusal.{Refusal}
 use Rattle.sheet.specs.declared.trial.Trial.{Trial}
 use Rattle.sheet.specs.Statements.{Statement}
 use Rattle.sheet.specs.Statements.Statement.{states, links, apart, compares}

@@ -1,4 +1,6 @@
 // Histories.
+#![tactic(auto)]
+
 ghost use Rattle.history.specs.Steps.{Stepwise};
 
 pub mod call;

@@ -24,7 +24,7 @@ fn answer_of(res: Result<(), Refusal>) -> Answer
 // Opens a trial; its token comes last among those at hand.
 fn open<D: Domain>(sheet: &mut Sheet<D>, tokens: &mut Vec<Option<Token>>) -> Answer
     requires { vec_len tokens.old < vec_capacity tokens.old }
-    ensures done { Performed (meaning sheet.old.domain) sheet.old (numbers tokens.old.items) Open sheet.new (numbers tokens.new.items) result }
+    ensures done { Performed (D.meaning sheet.old.domain) sheet.old (numbers tokens.old.items) Open sheet.new (numbers tokens.new.items) result }
     ensures room { (vec_len tokens.new ≤ vec_len tokens.old + 1) × (vec_capacity tokens.old ≤ vec_capacity tokens.new) }
 {
     match sheet.open_trial() {
@@ -41,7 +41,7 @@ fn open<D: Domain>(sheet: &mut Sheet<D>, tokens: &mut Vec<Option<Token>>) -> Ans
 
 // Keeps the trial of the token at this place.
 fn keep<D: Domain>(sheet: &mut Sheet<D>, tokens: &mut [Option<Token>], place: usize) -> Answer
-    ensures { Performed (meaning sheet.old.domain) sheet.old (numbers tokens.old) (Keep place) sheet.new (numbers tokens.new) result }
+    ensures { Performed (D.meaning sheet.old.domain) sheet.old (numbers tokens.old) (Keep place) sheet.new (numbers tokens.new) result }
 {
     match take_token(tokens, place) {
         None => Answer::NoToken,
@@ -54,7 +54,7 @@ fn keep<D: Domain>(sheet: &mut Sheet<D>, tokens: &mut [Option<Token>], place: us
 
 // Drops the trial of the token at this place.
 fn discard<D: Domain>(sheet: &mut Sheet<D>, tokens: &mut [Option<Token>], place: usize) -> Answer
-    ensures { Performed (meaning sheet.old.domain) sheet.old (numbers tokens.old) (Drop place) sheet.new (numbers tokens.new) result }
+    ensures { Performed (D.meaning sheet.old.domain) sheet.old (numbers tokens.old) (Drop place) sheet.new (numbers tokens.new) result }
 {
     match take_token(tokens, place) {
         None => Answer::NoToken,
@@ -72,7 +72,7 @@ pub fn perform<D: Domain>(
     call: Call<'_>,
 ) -> Answer
     requires { vec_len tokens.old < vec_capacity tokens.old }
-    ensures done { Performed (meaning sheet.old.domain) sheet.old (numbers tokens.old.items) call.entry sheet.new (numbers tokens.new.items) result }
+    ensures done { Performed (D.meaning sheet.old.domain) sheet.old (numbers tokens.old.items) call.entry sheet.new (numbers tokens.new.items) result }
     ensures room { (vec_len tokens.new ≤ vec_len tokens.old + 1) × (vec_capacity tokens.old ≤ vec_capacity tokens.new) }
 {
     match call {

@@ -19,7 +19,7 @@ pub fn play<D: Domain>(
     mut tokens: Vec<Option<Token>>,
     calls: &[Call<'_>],
 ) -> Result<Run<D>, Unplayed<D>>
-    ensures { MatchResult result (Sound (meaning domain) (numbers tokens.items) calls.now) (λ u. (u.domain ≡ domain) × (u.tokens.items ≡ tokens.items)) }
+    ensures { MatchResult result (Sound (D.meaning domain) (numbers tokens.items) calls.now) (λ u. (u.domain ≡ domain) × (u.tokens.items ≡ tokens.items)) }
 {
     let Ok(mut answers) = Vec::with_capacity(heap, calls.len()) else {
         return Err(Unplayed { domain, tokens });

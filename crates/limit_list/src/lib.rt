@@ -1,5 +1,7 @@
 // Limits on named readings, as a technician writes them down: what a line says, what it asks of the readings, and whether a
 // list of them can hold together.
+#![tactic(auto)]
+
 mod answering;
 mod bytes;
 pub mod fault;

@@ -1,5 +1,7 @@
 // Reads limits on named readings from the standard input, one to a line, and prints a value for each reading that satisfies them
 // all, or that no whole tenths of a degree do. A line that cannot be read, and a list that is refused, end with status 1.
+#![tactic(auto)]
+
 use anyhow::anyhow;
 use limit_list::{Trouble, Verdict, answer, read_list, verdict_text};
 use std::alloc::Global;

@@ -1,4 +1,6 @@
 // Marks: a concrete domain of the sixteen marks 0 to 15, with sets of marks, equality and inequality.
+#![tactic(auto)]
+
 ghost use Rattle.std.specs.Prelude.{◌≡◌, ℕ, true};
 ghost use Rattle.marks.specs.Examples.{Examples};
 ghost use Rattle.marks.specs.Marks.{marks, in_range};

@@ -1,4 +1,6 @@
 // A pair of domains, which is again a domain: the left side has the even kinds, the right side the odd ones.
+#![tactic(auto)]
+
 ghost use Rattle.std.specs.Prelude.{◌≡◌, length};
 ghost use Rattle.domain.specs.Meaning.{Meaning, sample_of};
 ghost use Rattle.domain.specs.Solving.{Accepted};

@@ -1,5 +1,5 @@
 -- Stating, refusal by refusal.
-use Rattle.std.proofs.Common.{◌≡◌, ℕ, ◌+◌, ◌*◌, ◌<◌, ◌≤◌, Bool, true, false, cond, eqb, leb, List, [], Some, None, Option, sym, refl, ap, ◌∙◌, arith}
+use Rattle.std.proofs.Common.{◌≡◌, ℕ, ◌+◌, ◌*◌, ◌<◌, ◌≤◌, true, cond, eqb, leb, List, [], Some, None, Option, sym, refl, ap, ◌∙◌, arith}
 use Rattle.std.proofs.lemmas.Bool.{cond-false, le-leb, lt-leb, ne_eqb}
 use Rattle.domain.specs.Meaning.{Meaning}
 use Rattle.concept.specs.declared.checked.Checked.{Checked}
@@ -13,13 +13,13 @@ use Rattle.concept.specs.Tables.{concept_of, table_fault}
 use Rattle.concept.specs.Terms.{Forms}
 use Rattle.sheet.specs.declared.refusal.Refusal.{Refusal}
 use Rattle.sheet.specs.declared.refusal.Refusal.TheVariants.{Object, Stating, Nodes, Values}
-use Rattle.sheet.specs.Statements.{Statement, n_of, v_of, k_of}
+use Rattle.sheet.specs.Statements.{n_of, v_of, k_of}
 use Rattle.sheet.specs.Statements.Statement.{states}
 use Rattle.sheet.specs.Views.{View, unless, is_object, at_table, state_refusal, stated}
 use Rattle.sheet.proofs.Passing.{passes, stops}
 
 -- the form at the root of a table, as the check and as the forest name it
-pub root_same : (t : Checked) → checking.root-forms t ≡ root_forms t
+pub root_same : (t : Checked) → checking.root_forms t ≡ root_forms t
 unfolding table_forms
 root_same t = refl
 

@@ -1,11 +1,11 @@
 -- Every normal form has a node, no more of its nodes ask for values than it has, and no path is longer.
-use Rattle.std.proofs.Common.{◌≡◌, ℕ, ◌+◌, ◌*◌, ◌<◌, ◌≤◌, max, Bool, true, false, cond, eqb, leb, sym, refl, ap, ◌∙◌, mul-le-mul, arith}
+use Rattle.std.proofs.Common.{◌≡◌, ℕ, ◌*◌, ◌≤◌, Bool, true, false, cond, eqb, leb, sym, ap, ◌∙◌, mul-le-mul, arith}
 use Rattle.std.proofs.lemmas.Bool.{and_from, eq-eqb}
 use Rattle.concept.specs.declared.count.Counts.{Counts}
 use Rattle.concept.specs.Concepts.{Concept}
 use Rattle.concept.specs.Concepts.Concept.{atom, neg, conj, disj, some, all, has, lacks, holds, meets, parts}
 use Rattle.concept.specs.Counts.{counted}
-use Rattle.concept.specs.Normal.{nodes, valued_nodes, role_depth, role_step}
+use Rattle.concept.specs.Normal.{nodes, valued_nodes, role_depth}
 use Rattle.sheet.specs.Layout.{weighs}
 
 pub some_node : (c : Concept) → 1 ≤ nodes c

@@ -1,19 +1,19 @@
 -- What a sheet always holds of its stored statements, and how it is kept.
-use Rattle.std.proofs.Common.{◌≡◌, ℕ, ◌+◌, ◌*◌, ◌<◌, ◌≤◌, Bool, true, false, ◌&&◌, eqb, leb, List, [], ◌∷◌, ◌++◌, map, length, take, sym, refl, ap, ◌∙◌, ap₂, mul-zero, arith}
+use Rattle.std.proofs.Common.{◌≡◌, ℕ, ◌+◌, ◌*◌, ◌<◌, ◌≤◌, true, eqb, leb, List, [], ◌∷◌, ◌++◌, map, length, take, sym, refl, ap, ◌∙◌, ap₂, mul-zero, arith}
 use Rattle.std.proofs.lemmas.List.{length-map, length-take, length-take-le, map_push}
 use Rattle.std.proofs.lemmas.List.Sums.{fold_push}
 use Rattle.std.proofs.lemmas.Bool.{and_parts, and_from, eqb-true, eq-eqb, leb-true, le-leb}
 use Rattle.concept.specs.declared.forest.Forest.{Forest}
 use Rattle.concept.specs.Concepts.{Concept}
-use Rattle.concept.specs.Forests.{trees, tree_at}
+use Rattle.concept.specs.Forests.{trees}
 use Rattle.concept.specs.Held.{items}
 use Rattle.sheet.specs.declared.statement.Stored.{Stored}
 use Rattle.sheet.specs.declared.statement.Stored.TheVariants.{Apart, Concept as Stated, Link, Compare}
 use Rattle.sheet.specs.declared.totals.Totals.{Totals}
 use Rattle.sheet.specs.Layout.{shown, in_force, length_after, laid_one, laid, total_length, sound}
-use Rattle.sheet.specs.Statements.{Statement, comparisons_of, others_of, v_of, k_of, x_of}
+use Rattle.sheet.specs.Statements.{comparisons_of, others_of, v_of, k_of, x_of}
 use Rattle.sheet.specs.Totals.{totals_of, nothing, weight_of, plus, tally}
-use Rattle.sheet.proofs.Laying.{stored_nodes, total_sum, total_push, laid_push}
+use Rattle.sheet.proofs.Laying.{total_sum, total_push, laid_push}
 use Rattle.sheet.proofs.Summing.{tally_none, tally_nodes, tally_valued, tally_others, n_right, v_right, k_right, x_right, r_right, few_statements, sum_valued}
 
 -- the parts of soundness, by the stored counts

@@ -1,5 +1,5 @@
 -- Statements laid down one after the other: one more, a front of them, and the same ones over another forest.
-use Rattle.std.proofs.Common.{◌≡◌, ℕ, zero, suc, ◌+◌, ◌<◌, ◌≤◌, Bool, true, false, ◌&&◌, eqb, List, [], ◌∷◌, ◌++◌, map, length, take, sum_by, sym, refl, ap, ◌∙◌, ap₂, arith}
+use Rattle.std.proofs.Common.{◌≡◌, ℕ, zero, suc, ◌+◌, ◌<◌, ◌≤◌, true, ◌&&◌, eqb, List, [], ◌∷◌, ◌++◌, map, take, sum_by, refl, ap, ◌∙◌, ap₂, arith}
 use Rattle.std.proofs.lemmas.List.Sums.{sum_by-cons, sum_by-take-le}
 use Rattle.std.proofs.lemmas.Bool.{and_parts, and_from, eqb-true}
 use Rattle.concept.specs.Concepts.{Concept}
@@ -7,7 +7,6 @@ use Rattle.concept.specs.Forests.{tree_at}
 use Rattle.sheet.specs.declared.statement.Stored.{Stored}
 use Rattle.sheet.specs.declared.statement.Stored.TheVariants.{Apart, Concept as Stated, Link, Compare}
 use Rattle.sheet.specs.Layout.{shown, weighs, length_after, laid_one, laid, total_length}
-use Rattle.sheet.specs.Statements.{Statement}
 use Rattle.sheet.specs.Statements.Statement.{states}
 use Rattle.sheet.specs.Totals.{weight_of}
 

@@ -1,5 +1,5 @@
 -- The forest cut back to a front of the statements, and grown by one more.
-use Rattle.std.proofs.Common.{◌≡◌, ℕ, ◌+◌, ◌*◌, ◌<◌, ◌≤◌, Bool, true, false, ◌&&◌, eqb, List, [], ◌∷◌, ◌++◌, map, length, get_or, take, sym, refl, ap, ◌∙◌, ap₂, mul-le-mul_left, arith}
+use Rattle.std.proofs.Common.{◌≡◌, ℕ, ◌+◌, ◌*◌, ◌<◌, ◌≤◌, true, eqb, List, [], ◌∷◌, ◌++◌, length, take, sym, ap, ◌∙◌, ap₂, mul-le-mul_left, arith}
 use Rattle.std.proofs.lemmas.List.{length-take-le, map_push, take-map, take-take}
 use Rattle.std.proofs.lemmas.Bool.{and_from, eq-eqb}
 use Rattle.concept.specs.declared.count.Counts.{Counts}
@@ -14,12 +14,12 @@ use Rattle.concept.proofs.Growing.{grow_below}
 use Rattle.sheet.specs.declared.statement.Stored.{Stored}
 use Rattle.sheet.specs.declared.statement.Stored.TheVariants.{Concept as Stated}
 use Rattle.sheet.specs.declared.totals.Totals.{Totals}
-use Rattle.sheet.specs.Layout.{shown, in_force, weighs, laid_one, laid, total_length, sound}
+use Rattle.sheet.specs.Layout.{shown, in_force, weighs, laid, total_length, sound}
 use Rattle.sheet.specs.Statements.{Statement, n_of, v_of, k_of}
 use Rattle.sheet.specs.Statements.Statement.{states}
-use Rattle.sheet.specs.Totals.{totals_of, weight_of, tally}
+use Rattle.sheet.specs.Totals.{totals_of, tally}
 use Rattle.sheet.proofs.Bounding.{some_node, few_valued, counted_right, product_small}
-use Rattle.sheet.proofs.Keeping.{Sound, sound_parts, sound_from, totals_right, tally_push, few_nodes, few_valued as few_asked, few_comparisons, few_others, all_nodes, few_stored}
+use Rattle.sheet.proofs.Keeping.{sound_parts, sound_from, totals_right, tally_push, few_nodes, few_valued as few_asked, few_comparisons, few_others, all_nodes, few_stored}
 use Rattle.sheet.proofs.Laying.{total_sum, total_push, total_take, laid_push, laid_take, laid_same, map_same}
 use Rattle.sheet.proofs.Summing.{tally_nodes, front_nodes, front_valued, front_comparisons, front_others}
 

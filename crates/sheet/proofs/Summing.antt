@@ -1,5 +1,5 @@
 -- The totals that are summed up from the stored counts are those of the statements.
-use Rattle.std.proofs.Common.{◌≡◌, ℕ, ◌+◌, ◌<◌, ◌≤◌, max, Bool, true, false, ◌&&◌, eqb, List, [], ◌∷◌, map, length, get_or, take, fold, sum_by, sym, refl, ap, ◌∙◌, ap₂, arith}
+use Rattle.std.proofs.Common.{◌≡◌, ℕ, ◌+◌, ◌<◌, ◌≤◌, max, true, ◌&&◌, eqb, List, [], ◌∷◌, map, length, get_or, take, fold, sum_by, sym, refl, ap, ◌∙◌, ap₂, arith}
 use Rattle.std.proofs.lemmas.List.Sums.{fold_more, sum_by-cons, sum_by-take-le}
 use Rattle.std.proofs.lemmas.Bool.{and_parts, eqb-true}
 use Rattle.concept.specs.declared.count.Counts.{Counts}
@@ -11,7 +11,7 @@ use Rattle.sheet.specs.declared.statement.Stored.TheVariants.{Apart, Concept as 
 use Rattle.sheet.specs.declared.totals.Totals.{Totals}
 use Rattle.sheet.specs.Layout.{shown, weighs, length_after, laid_one, laid, total_length}
 use Rattle.sheet.specs.Statements.{Statement, nodes_of, valued_of, comparisons_of, others_of, depth_of, n_of, v_of, k_of, x_of, r_of}
-use Rattle.sheet.specs.Totals.{totals_of, nothing, weight_of, plus, tally}
+use Rattle.sheet.specs.Totals.{nothing, weight_of, plus, tally}
 use Rattle.sheet.proofs.Bounding.{some_node, few_valued}
 use Rattle.sheet.proofs.Laying.{stored_nodes}
 

@@ -1,5 +1,5 @@
 -- How a sheet keeps its statements: each concept's tree ends where the forest ended when the concept was stated.
-use Rattle.std.specs.Prelude.{ℕ, ◌+◌, ◌*◌, Bool, true, false, ◌&&◌, List, [], ◌∷◌, map, length, ◌==◌, nat_le}
+use Rattle.std.specs.Prelude.{ℕ, ◌+◌, ◌*◌, Bool, true, ◌&&◌, List, [], ◌∷◌, map, length, ◌==◌, nat_le}
 use Rattle.concept.specs.declared.count.Counts.{Counts}
 use Rattle.concept.specs.declared.forest.Forest.{Forest}
 use Rattle.concept.specs.Concepts.{Concept}

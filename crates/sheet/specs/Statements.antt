@@ -1,5 +1,5 @@
 -- Statements, when a plant satisfies them, and what is counted of them.
-use Rattle.std.specs.Prelude.{ℕ, ◌+◌, max, Bool, true, false, not, ◌&&◌, List, [], ◌∷◌, fold, sum_by, ◌==◌}
+use Rattle.std.specs.Prelude.{ℕ, max, Bool, true, not, ◌&&◌, List, [], ◌∷◌, fold, sum_by, ◌==◌}
 use Rattle.domain.specs.declared.predicate.Predicate.{Predicate}
 use Rattle.domain.specs.Meaning.{Meaning, tested}
 use Rattle.concept.specs.Concepts.{Concept}

@@ -1,5 +1,5 @@
 -- What is counted of stored statements.
-use Rattle.std.specs.Prelude.{ℕ, ◌+◌, max, List, fold}
+use Rattle.std.specs.Prelude.{◌+◌, max, List, fold}
 use Rattle.sheet.specs.declared.statement.Stored.{Stored}
 use Rattle.sheet.specs.declared.statement.Stored.TheVariants.{Apart, Concept as Stated, Link, Compare}
 use Rattle.sheet.specs.declared.totals.Totals.{Totals}

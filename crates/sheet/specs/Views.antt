@@ -6,14 +6,14 @@ use Rattle.domain.specs.Solving.{first_failing}
 use Rattle.concept.specs.declared.node.Node.{Node}
 use Rattle.concept.specs.declared.fault.PredicateFault.{PredicateFault}
 use Rattle.concept.specs.declared.fault.TableFault.{TableFault}
-use Rattle.concept.specs.Concepts.{Concept, is_value, is_relation, kind_at}
+use Rattle.concept.specs.Concepts.{is_value, is_relation, kind_at}
 use Rattle.concept.specs.Normal.{normal, nodes, valued_nodes}
 use Rattle.concept.specs.Tables.{concept_of, table_fault, misfit}
 use Rattle.sheet.specs.declared.refusal.Refusal.{Refusal}
 use Rattle.sheet.specs.declared.refusal.Refusal.TheVariants.{SetUpBefore, Objects, Kinds, Object, Stating, Comparing, Nodes, Values, Relation, Others, Feature, Trials}
 use Rattle.sheet.specs.declared.trial.Trial.{Trial}
 use Rattle.sheet.specs.Statements.{Statement, n_of, v_of, k_of, x_of}
-use Rattle.sheet.specs.Statements.Statement.{states, links, apart, compares}
+use Rattle.sheet.specs.Statements.Statement.{states}
 
 -- a sheet: the number of objects (M, 0 before setting up), the kinds of the value features (none before setting up), the
 -- statements in force with their concepts in normal form, oldest first, the open trials, oldest first, and how many were opened

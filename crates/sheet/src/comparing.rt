@@ -18,7 +18,7 @@ pub const MOST_VALUES: u32 = 256;
 
 // A predicate fits between two values where the domain knows it and it has arity 2.
 fn fit_between<D: Domain>(domain: &D, predicate: Predicate) -> Result<(), PredicateFault>
-    ensures { MatchResult result (λ _. misfit (meaning domain.now) predicate false ≡ None) (λ e. misfit (meaning domain.now) predicate false ≡ Some e) }
+    ensures { MatchResult result (λ _. misfit (D.meaning domain.now) predicate false ≡ None) (λ e. misfit (D.meaning domain.now) predicate false ≡ Some e) }
 {
     match domain.complement(predicate) {
         Err(refusal) => Err(PredicateFault::Unknown(refusal)),
@@ -53,7 +53,7 @@ impl<D: Domain> Sheet<D> {
         left: Reading,
         right: Reading,
     ) -> Result<(), Refusal>
-        ensures { Acts self.old self.new (compare_refusal (meaning self.old.domain) (view self.old) (compared_by (view self.old) left.feature form constant) left.object left.feature right.object right.feature) (with_statement (view self.old) (compares (compared_by (view self.old) left.feature form constant) left.object left.feature right.object right.feature)) result }
+        ensures { Acts self.old self.new (compare_refusal (D.meaning self.old.domain) (view self.old) (compared_by (view self.old) left.feature form constant) left.object left.feature right.object right.feature) (with_statement (view self.old) (compares (compared_by (view self.old) left.feature form constant) left.object left.feature right.object right.feature)) result }
     {
         if !self.are_objects(left.object, right.object) {
             return Err(Refusal::Object);

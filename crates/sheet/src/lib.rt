@@ -1,5 +1,7 @@
 // Sheets: what is stated of a plant, in and out of trials. A sheet is made over a domain and set up; statements are added to it,
 // trials are opened, kept and dropped, and what is in force is counted and read.
+#![tactic(auto)]
+
 ghost use Rattle.sheet.specs.Views.{View};
 
 pub mod refusal;

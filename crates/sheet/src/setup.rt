@@ -14,13 +14,13 @@ pub const MOST_OBJECTS: u32 = 16;
 pub const VALUE_FEATURES: usize = 128;
 
 fn is_known<D: Domain>(domain: &D, kind: u32) -> bool
-    ensures { result ≡ (meaning domain.now).knows kind }
+    ensures { result ≡ (D.meaning domain.now).knows kind }
 {
     domain.sample(kind).is_some()
 }
 
 fn first_unknown<D: Domain>(domain: &D, kinds: &[u32]) -> Option<usize>
-    ensures { result ≡ first_failing (meaning domain.now).knows 0 kinds.now }
+    ensures { result ≡ first_failing (D.meaning domain.now).knows 0 kinds.now }
 {
     for (i, kind) in kinds.iter().enumerate() {
         if !is_known(domain, *kind) {
@@ -33,7 +33,7 @@ fn first_unknown<D: Domain>(domain: &D, kinds: &[u32]) -> Option<usize>
 impl<D: Domain> Sheet<D> {
     // Fixes how many objects there are, and the kinds of the value features from 128 on.
     pub fn set_up(&mut self, objects: u32, kinds: &[u32]) -> Result<(), Refusal>
-        ensures { Acts self.old self.new (set_up_refusal (meaning self.old.domain) (view self.old) objects kinds.now) (set_up (view self.old) objects kinds.now) result }
+        ensures { Acts self.old self.new (set_up_refusal (D.meaning self.old.domain) (view self.old) objects kinds.now) (set_up (view self.old) objects kinds.now) result }
     {
         if self.objects != 0 {
             return Err(Refusal::SetUpBefore);

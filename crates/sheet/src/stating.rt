@@ -15,7 +15,7 @@ use domain::Domain;
 impl<D: Domain> Sheet<D> {
     // States that the object lies in the concept of the table.
     pub fn state(&mut self, object: u32, table: &[Node]) -> Result<(), Refusal>
-        ensures { Acts self.old self.new (state_refusal (meaning self.old.domain) (view self.old) object table.now) (with_statement (view self.old) (stated (meaning self.old.domain) (view self.old) object table.now)) result }
+        ensures { Acts self.old self.new (state_refusal (D.meaning self.old.domain) (view self.old) object table.now) (with_statement (view self.old) (stated (D.meaning self.old.domain) (view self.old) object table.now)) result }
     {
         if !self.is_object(object) {
             return Err(Refusal::Object);

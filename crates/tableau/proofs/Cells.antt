@@ -4,7 +4,7 @@ use Rattle.domain.specs.Meaning.{Meaning}
 use Rattle.concept.specs.Concepts.{Concept}
 use Rattle.concept.specs.Concepts.Concept.{some}
 use Rattle.concept.specs.Plants.{Plant}
-use Rattle.tableau.specs.Completion.{Claims, Claimed, Done, Complete, Possible, Due, Settled}
+use Rattle.tableau.specs.Completion.{Claims, Done, Complete, Possible, Due, Settled}
 
 module _ (k : Claims) where
   pub cells_complete :

@@ -1,4 +1,6 @@
 // Completion: what a completed cluster stands for.
+#![tactic(auto)]
+
 ghost use Rattle.tableau.specs.Completion.{Assembly, Payment};
 ghost use Rattle.tableau.specs.Example.{Example};
 

@@ -1,4 +1,6 @@
 // Tenths: a concrete domain of whole tenths of a degree, with bounds and differences.
+#![tactic(auto)]
+
 ghost use Rattle.std.specs.Prelude.{◌≡◌};
 ghost use Rattle.tenths.specs.Tenths.{tenths, in_range, says, turned};
 ghost use Rattle.tenths.specs.Laws;

@@ -17,8 +17,8 @@ returns c =
     let two : Concept = nowhere k.u k.v in
     let gone : c.if-constraint-eq1.nowhere ≡ counted (cond (eqb k.arity 1) alone two) =
     elim c.if-constraint-eq1.branch [
-      | then-constraint-eq1 w ↦ w.nowhere-is ∙ (c.undefined-counts-u.ensures ∙ ap counted (sym (cond-true (eqb k.arity 1) alone two (eq-eqb k.arity 1 w.if-constraint-eq1.true))))
-      | else-constraint-eq1 w ↦ w.nowhere-is ∙ (w.joined-nowhere.ensures alone (undefined (steps k.v)) c.undefined-counts-u.ensures c.undefined-counts-v.ensures
+      | then-constraint-eq1 w ↦ w.nowhere-is ∙ (c.undefined_counts-u.ensures ∙ ap counted (sym (cond-true (eqb k.arity 1) alone two (eq-eqb k.arity 1 w.if-constraint-eq1.true))))
+      | else-constraint-eq1 w ↦ w.nowhere-is ∙ (w.joined-nowhere.ensures alone (undefined (steps k.v)) c.undefined_counts-u.ensures c.undefined_counts-v.ensures
           ∙ ap counted (sym (cond-false (eqb k.arity 1) alone two (ne_eqb k.arity 1 w.if-constraint-eq1.false))))
     ] in
     both_counted (constraint_forms k) _ _ refl (c.joined.ensures (holds k.complement (steps k.u) (steps k.v)) (cond (eqb k.arity 1) alone two) refl gone)

@@ -11,5 +11,5 @@ pub returns : goal.returns
 returns c =
     let u = c.args.u in
     let v = c.args.v in
-    let gone = c.joined-nowhere.ensures (undefined (steps u)) (undefined (steps v)) c.undefined-counts.ensures c.undefined-counts-2.ensures in
+    let gone = c.joined-nowhere.ensures (undefined (steps u)) (undefined (steps v)) c.undefined_counts.ensures c.undefined_counts-2.ensures in
     both_counted (term_forms [] (Meets u v)) _ _ refl (c.joined.ensures (parts (steps u) (steps v)) (nowhere u v) refl gone)

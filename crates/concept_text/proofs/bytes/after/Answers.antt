@@ -3,4 +3,4 @@ use Rattle.concept_text.proofs.Runs.{drop_within}
 use Rattle.concept_text.proofs.bytes.after.Goals as goal
 
 pub returns : goal.returns
-returns c = c.split-at.ensures.back ∙ drop_within c.args.n _ c.args.s.now (search rules)
+returns c = c.split_at.ensures.back ∙ drop_within c.args.n _ c.args.s.now (search rules)

@@ -2,8 +2,8 @@ use Rattle.std.proofs.Common.{◌≡◌, ◌+◌, ◌*◌, get_or, drop, sym, �
 use Rattle.concept_text.proofs.Numerals.{shift, grows, folded_on, folded_all}
 use Rattle.concept_text.proofs.numeral.digits_value.Goals as goal
 
-pub returns-then-n-ge-TOO-LARGE : goal.returns-then-n-ge-TOO-LARGE
-returns-then-n-ge-TOO-LARGE c =
+pub returns-then-n-ge-TOO_LARGE : goal.returns-then-n-ge-TOO_LARGE
+returns-then-n-ge-TOO_LARGE c =
     let ds = c.args.digits.now in
     let i = c.loop-d.d-index in
     let k = c.loop-d.n * 10 + c.from.result in

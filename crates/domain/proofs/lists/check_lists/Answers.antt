@@ -3,17 +3,17 @@ use Rattle.domain.specs.Solving.{refusal_of}
 use Rattle.domain.proofs.Accepting.{accepted}
 use Rattle.domain.proofs.lists.check_lists.Goals as goal
 
-pub returns-then-too-many : goal.returns-then-too-many
+pub returns-then-too_many : goal.returns-then-too_many
 unfolding refusal_of
-returns-then-too-many g c = search rules
+returns-then-too_many g c = search rules
 
 pub returns-in-Some : goal.returns-in-Some
 unfolding refusal_of
 returns-in-Some g c = search rules
 
-pub returns-in-Some-first-unfit-row : goal.returns-in-Some-first-unfit-row
+pub returns-in-Some-first_unfit_row : goal.returns-in-Some-first_unfit_row
 unfolding refusal_of
-returns-in-Some-first-unfit-row g c = search rules
+returns-in-Some-first_unfit_row g c = search rules
 
 pub returns-then-room-kinds : goal.returns-then-room-kinds
 unfolding refusal_of

@@ -2,8 +2,8 @@ use Rattle.std.proofs.Common.{sym, ◌∙◌, rules}
 use Rattle.domain.proofs.Failing.{failing_later, failing_here, failing_nowhere}
 use Rattle.domain.proofs.lists.first_unknown_kind.Goals as goal
 
-pub returns-then-not-has-kind : goal.returns-then-not-has-kind
-returns-then-not-has-kind g c =
+pub returns-then-not-has_kind : goal.returns-then-not-has_kind
+returns-then-not-has_kind g c =
     sym
     (c.loop-i.invariant
     ∙ failing_here (g.W.Words.spoken c.args.words.now).knows c.args.kinds.now c.loop-i.i 0 c.loop-i-test.true (search rules))

@@ -1,6 +1,6 @@
 -- What is left of the list decides the answer.
 use Rattle.std.proofs.Common.{◌≡◌, drop}
-use Rattle.domain.specs.Solving.{first_failing, fit}
+use Rattle.domain.specs.Solving.{first_failing}
 use Rattle.domain.proofs.lists.first_unknown_kind.Given as goal
 
 abbrev pub invariant-loop-i : goal.invariant-loop-i

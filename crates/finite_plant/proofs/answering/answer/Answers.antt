@@ -1,4 +1,4 @@
-use Rattle.std.proofs.Common.{◌≡◌, ◌+◌, ◌*◌, ◌<◌, ◌≤◌, false, length, get_or, sym, ap, ◌∙◌, arith, rules}
+use Rattle.std.proofs.Common.{◌≡◌, ◌+◌, ◌*◌, false, get_or, ap, ◌∙◌, arith, rules}
 use Rattle.concept.specs.Plants.{inside}
 use Rattle.concept.specs.Tables.{reads}
 use Rattle.finite_plant.specs.Data.{plant_of}

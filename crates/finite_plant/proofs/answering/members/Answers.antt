@@ -1,4 +1,4 @@
-use Rattle.std.proofs.Common.{◌≡◌, ◌+◌, ◌-◌, ◌*◌, ◌<◌, ◌≤◌, false, length, get_or, take, drop, sym, ap, ◌∙◌, subst, arith, rules}
+use Rattle.std.proofs.Common.{◌≡◌, ◌+◌, ◌-◌, ◌*◌, false, length, get_or, take, drop, sym, ap, ◌∙◌, subst, arith, rules}
 use Rattle.concept.specs.Tables.{concepts}
 use Rattle.finite_plant.specs.Answers.{Told}
 use Rattle.finite_plant.specs.Data.{plant_of}
@@ -25,5 +25,5 @@ returns g c = λ x h.
     let table = c.args.table.now in
     let start = 64 * (length table - 1) in
     let wide : start + 64 - start ≡ 64 = omega arith in
-    ap (λ r. get_or r x false) c.copy-from-slice.ensures.after ∙ (ap (λ k. get_or (take k (drop start c.loop-place.answers)) x false) wide
+    ap (λ r. get_or r x false) c.copy_from_slice.ensures.after ∙ (ap (λ k. get_or (take k (drop start c.loop-place.answers)) x false) wide
     ∙ root_row kinds table m plant c.loop-place.place c.loop-place.answers (search rules) (omega arith) (omega arith) c.loop-place.invariant.1 x h)

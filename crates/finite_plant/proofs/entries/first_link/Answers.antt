@@ -1,4 +1,4 @@
-use Rattle.std.proofs.Common.{◌≡◌, sym, ap, ◌∙◌, arith}
+use Rattle.std.proofs.Common.{sym, ◌∙◌, arith}
 use Rattle.finite_plant.specs.declared.plant.Link.{Link}
 use Rattle.finite_plant.specs.Data.{links_so}
 use Rattle.finite_plant.proofs.Firsts.{first_here, first_later, first_none}

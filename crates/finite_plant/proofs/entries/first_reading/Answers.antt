@@ -1,4 +1,4 @@
-use Rattle.std.proofs.Common.{◌≡◌, pos, sym, ap, ◌∙◌, arith, rules}
+use Rattle.std.proofs.Common.{pos, sym, ◌∙◌, arith, rules}
 use Rattle.finite_plant.specs.declared.plant.Reading.{Reading}
 use Rattle.finite_plant.specs.Data.{reads_so}
 use Rattle.finite_plant.proofs.Firsts.{first_here, first_later, first_none}

@@ -1,4 +1,4 @@
-use Rattle.std.proofs.Common.{◌≡◌, is_some, sym, ap, ◌∙◌, arith}
+use Rattle.std.proofs.Common.{is_some, sym, ap, ◌∙◌, arith}
 use Rattle.finite_plant.specs.declared.plant.Named.{Named}
 use Rattle.finite_plant.specs.Data.{names_so}
 use Rattle.finite_plant.proofs.Firsts.{first_here, first_later, first_none}

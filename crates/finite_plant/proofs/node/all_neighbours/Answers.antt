@@ -7,8 +7,8 @@ use Rattle.finite_plant.proofs.node.all_neighbours.Goals as goal
 
 pub loop-other-preserved : goal.loop-other-preserved
 loop-other-preserved c = λ m cs n t.
-    all_more (λ y. not (related (plant_of c.args.plant.now) c.args.relation c.args.thing y) || inside m (plant_of c.args.plant.now) (below_at cs c.args.place) y) c.loop-other.other c.all-so-far-held.result c.loop-other.held
-    (c.all-so-far-held.ensures ∙ ap₂ (λ a b. (not a || b) && c.loop-other.held) c.related-near.ensures (c.told-inside.ensures m cs n c.loop-other-test.true t))
+    all_more (λ y. not (related (plant_of c.args.plant.now) c.args.relation c.args.thing y) || inside m (plant_of c.args.plant.now) (below_at cs c.args.place) y) c.loop-other.other c.all_so_far-held.result c.loop-other.held
+    (c.all_so_far-held.ensures ∙ ap₂ (λ a b. (not a || b) && c.loop-other.held) c.related-near.ensures (c.told-inside.ensures m cs n c.loop-other-test.true t))
     (c.loop-other.invariant m cs n t)
 
 pub returns : goal.returns

@@ -1,5 +1,5 @@
 -- The things so far.
-use Rattle.std.proofs.Common.{◌≡◌, ℕ, ◌*◌, not, ◌||◌, List, length}
+use Rattle.std.proofs.Common.{◌≡◌, not, ◌||◌, List, length}
 use Rattle.domain.specs.Meaning.{Meaning}
 use Rattle.concept.specs.Concepts.{Concept}
 use Rattle.concept.specs.Plants.{inside, related, all_below}

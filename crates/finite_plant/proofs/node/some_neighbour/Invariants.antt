@@ -1,5 +1,5 @@
 -- The things so far.
-use Rattle.std.proofs.Common.{◌≡◌, ℕ, ◌*◌, ◌&&◌, List, length}
+use Rattle.std.proofs.Common.{◌≡◌, ◌&&◌, List, length}
 use Rattle.domain.specs.Meaning.{Meaning}
 use Rattle.concept.specs.Concepts.{Concept}
 use Rattle.concept.specs.Plants.{inside, related, any_below}

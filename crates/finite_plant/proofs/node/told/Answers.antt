@@ -8,4 +8,4 @@ use Rattle.finite_plant.proofs.node.told.Goals as goal
 pub returns-else-place-places : goal.returns-else-place-places
 returns-else-place-places c = λ m cs n lt t.
     let past : length cs ≤ c.args.place = omega arith in
-    c.is-named.ensures ∙ sym (ap (λ k. inside m (plant_of c.args.plant.now) k c.args.thing) (get_or_past cs c.args.place (atom 0) past))
+    c.is_named.ensures ∙ sym (ap (λ k. inside m (plant_of c.args.plant.now) k c.args.thing) (get_or_past cs c.args.place (atom 0) past))

@@ -11,8 +11,8 @@ returns-in-Keep g c =
     record {
       done =
           rewritten (g.D.Domain.meaning c.args.sheet.now.domain) c.args.sheet.now c.keep.new.sheet (numbers (vec_items c.args.tokens.now))
-          (numbers c.as-mut-slice.result.now) _ (numbers c.keep.new.tokens) c.args.call (call.Keep c.in-Keep.place) c.keep.result
-          (ap numbers (sym c.as-mut-slice.ensures.value)) (search rules) (ap numbers (take_at c.keep.new.tokens _ c.args.tokens.now.len long))
+          (numbers c.as_mut_slice.result.now) _ (numbers c.keep.new.tokens) c.args.call (call.Keep c.in-Keep.place) c.keep.result
+          (ap numbers (sym c.as_mut_slice.ensures.value)) (search rules) (ap numbers (take_at c.keep.new.tokens _ c.args.tokens.now.len long))
           c.keep.ensures;
       room = search rules;
     }
@@ -23,8 +23,8 @@ returns-in-Drop g c =
     record {
       done =
           rewritten (g.D.Domain.meaning c.args.sheet.now.domain) c.args.sheet.now c.discard.new.sheet (numbers (vec_items c.args.tokens.now))
-          (numbers c.as-mut-slice-in-Drop.result.now) _ (numbers c.discard.new.tokens) c.args.call (call.Drop c.in-Drop.place) c.discard.result
-          (ap numbers (sym c.as-mut-slice-in-Drop.ensures.value)) (search rules) (ap numbers (take_at c.discard.new.tokens _ c.args.tokens.now.len long))
+          (numbers c.as_mut_slice-in-Drop.result.now) _ (numbers c.discard.new.tokens) c.args.call (call.Drop c.in-Drop.place) c.discard.result
+          (ap numbers (sym c.as_mut_slice-in-Drop.ensures.value)) (search rules) (ap numbers (take_at c.discard.new.tokens _ c.args.tokens.now.len long))
           c.discard.ensures;
       room = search rules;
     }

@@ -1,11 +1,11 @@
-use Rattle.std.proofs.Common.{◌≡◌, ◌+◌, ◌<◌, ◌≤◌, [], ◌∷◌, ◌++◌, length, get_or, take, is_ok, vec_items, vec_len, vec_capacity, sym, ap, ◌∙◌, subst, arith, rules}
+use Rattle.std.proofs.Common.{◌≡◌, ◌+◌, ◌<◌, ◌≤◌, [], ◌∷◌, ◌++◌, length, get_or, take, is_ok, vec_items, vec_len, vec_capacity, ap, ◌∙◌, subst, arith, rules}
 use Rattle.std.proofs.lemmas.List.{take_more, take_all, length-take-le}
 use Rattle.std.proofs.lemmas.Bool.{cond-true}
 use Rattle.domain.specs.Meaning.{Meaning}
 use Rattle.history.specs.declared.call.Call.TheVariants.{Open}
 use Rattle.history.specs.Runs.{Performed}
 use Rattle.history.specs.Tokens.{numbers}
-use Rattle.history.proofs.Running.{Underway, started, continued, finished}
+use Rattle.history.proofs.Running.{started, continued, finished}
 use Rattle.history.proofs.play.play.Goals as goal
 
 pub loop-call-init : goal.loop-call-init

@@ -1,4 +1,4 @@
-use Rattle.std.proofs.Common.{◌≡◌, ◌<◌, ◌≤◌, length, get_or, set, None, sym, ap, ◌∙◌, arith, rules}
+use Rattle.std.proofs.Common.{◌≤◌, length, set, None, sym, ap, ◌∙◌, arith}
 use Rattle.std.proofs.lemmas.List.{get_or_past, set_past, length-map, get_or-map, map-set}
 use Rattle.history.specs.Tokens.{numbers, number_in}
 use Rattle.history.proofs.tokens.take_token.Goals as goal

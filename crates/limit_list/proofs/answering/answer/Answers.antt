@@ -5,7 +5,7 @@ use Rattle.limit_list.proofs.answering.answer.Goals as goal
 pub returns-in-Solved : goal.returns-in-Solved
 returns-in-Solved g c =
     record {
-      answered = chosen_all (g.D.Domain.meaning c.args.domain.now) c.as-slice.result.now _ c.as-slice-2.result.now _ c.as-mut-slice.result.now c.solve.new.values c.in-ok-values.values.items c.in-ok-values.values.len
-          c.in-Ok.outcome c.in-Solved.is c.in-Ok.ensures.answer c.as-slice.ensures.value c.as-slice-2.ensures.value (search rules) (search rules);
+      answered = chosen_all (g.D.Domain.meaning c.args.domain.now) c.as_slice.result.now _ c.as_slice-2.result.now _ c.as_mut_slice.result.now c.solve.new.values c.in_ok-values.values.items c.in_ok-values.values.len
+          c.in-Ok.outcome c.in-Solved.is c.in-Ok.ensures.answer c.as_slice.ensures.value c.as_slice-2.ensures.value (search rules) (search rules);
       meant = c.in-Ok.ensures.meant;
     }

@@ -7,15 +7,15 @@ loop-rest-init c = none_yet c.args.text.now _ c.new.ensures.items c.new-2.ensure
 
 pub returns-in-Err : goal.returns-in-Err
 returns-in-Err c =
-    refused_line c.loop-rest.invariant _ _ c.loop-rest-test.true c.first-line.ensures.front c.first-line.ensures.rest c.take-line.new.list c.in-Err.trouble c.in-Err.ensures
+    refused_line c.loop-rest.invariant _ _ c.loop-rest-test.true c.first_line.ensures.front c.first_line.ensures.rest c.take_line.new.list c.in-Err.trouble c.in-Err.ensures
 
 pub loop-rest-smaller : goal.loop-rest-smaller
 loop-rest-smaller c =
-    less_left c.loop-rest.invariant _ _ c.loop-rest-test.true c.first-line.ensures.front c.first-line.ensures.rest
+    less_left c.loop-rest.invariant _ _ c.loop-rest-test.true c.first_line.ensures.front c.first_line.ensures.rest
 
 pub loop-rest-preserved : goal.loop-rest-preserved
 loop-rest-preserved c =
-    taken_line c.loop-rest.invariant _ _ c.loop-rest-test.true c.first-line.ensures.front c.first-line.ensures.rest _ c.in-Ok.ensures
+    taken_line c.loop-rest.invariant _ _ c.loop-rest-test.true c.first_line.ensures.front c.first_line.ensures.rest _ c.in-Ok.ensures
 
 pub returns : goal.returns
 returns c = all_read c.loop-rest.invariant c.loop-rest-test.false

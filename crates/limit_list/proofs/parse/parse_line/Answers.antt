@@ -5,8 +5,8 @@ use Rattle.limit_list.proofs.Spellings.{read_spelt}
 use Rattle.limit_list.proofs.Stopping.{told_good}
 use Rattle.limit_list.proofs.parse.parse_line.Goals as goal
 
-pub column-of-requires : goal.column-of-requires
-column-of-requires c =
+pub column_of-requires : goal.column_of-requires
+column_of-requires c =
     told_good c.args.line.now (Err c.in-Err.stop) (c.in-Err.ensures ∙ ap from_start c.bare.ensures)
 
 pub returns-in-Ok : goal.returns-in-Ok

@@ -10,37 +10,37 @@ pub returns-then-not-gather : goal.returns-then-not-gather
 returns-then-not-gather c f a =
     c.if-not-gather.ensures f (c.join.ensures.rooted f (allowed_equal c.args.sets.now c.args.rows.now f a)) a.within
 
-pub returns-in-default : goal.returns-in-default
-returns-in-default c f a =
-    c.in-default.ensures f
+pub returns-in_default : goal.returns-in_default
+returns-in_default c f a =
+    c.in_default.ensures f
     (allowed_unequal c.args.sets.now c.args.rows.now f a c.join.new.roots
     (c.join.ensures.rooted f (allowed_equal c.args.sets.now c.args.rows.now f a)) c.requires.ready)
 
-pub any-crowded-requires : goal.any-crowded-requires
-any-crowded-requires c =
-    front_listed c.args.rows.now c.join.new.roots (length c.args.rows.now) c.list-pairs.new.pairs c.in-Some.few c.in-Some.ensures c.requires.few
+pub any_crowded-requires : goal.any_crowded-requires
+any_crowded-requires c =
+    front_listed c.args.rows.now c.join.new.roots (length c.args.rows.now) c.list_pairs.new.pairs c.in-Some.few c.in-Some.ensures c.requires.few
 
-pub returns-then-any-crowded : goal.returns-then-any-crowded
-returns-then-any-crowded c =
-    none_allowed c.args.sets.now c.args.rows.now c.join.new.roots c.gather.new.joined c.list-pairs.new.pairs c.in-Some.few
-    c.join.ensures c.if-not-gather.ensures c.in-Some.ensures c.requires.ready c.requires.few (c.if-any-crowded.ensures refl)
+pub returns-then-any_crowded : goal.returns-then-any_crowded
+returns-then-any_crowded c =
+    none_allowed c.args.sets.now c.args.rows.now c.join.new.roots c.gather.new.joined c.list_pairs.new.pairs c.in-Some.few
+    c.join.ensures c.if-not-gather.ensures c.in-Some.ensures c.requires.ready c.requires.few (c.if-any_crowded.ensures refl)
 
 pub search-requires : goal.search-requires
 search-requires c = record {
-  listed = front_listed c.args.rows.now c.join.new.roots (length c.args.rows.now) c.list-pairs.new.pairs c.in-Some.few c.in-Some.ensures c.requires.few;
+  listed = front_listed c.args.rows.now c.join.new.roots (length c.args.rows.now) c.list_pairs.new.pairs c.in-Some.few c.in-Some.ensures c.requires.few;
   full = c.if-not-gather.ensures.full;
 }
 
 pub returns-then-not-search : goal.returns-then-not-search
 returns-then-not-search c =
-    none_allowed c.args.sets.now c.args.rows.now c.join.new.roots c.gather.new.joined c.list-pairs.new.pairs c.in-Some.few
+    none_allowed c.args.sets.now c.args.rows.now c.join.new.roots c.gather.new.joined c.list_pairs.new.pairs c.in-Some.few
     c.join.ensures c.if-not-gather.ensures c.in-Some.ensures c.requires.ready c.requires.few c.if-not-search.ensures
 
-pub read-off-requires : goal.read-off-requires
-read-off-requires c = c.join.ensures.listed
+pub read_off-requires : goal.read_off-requires
+read_off-requires c = c.join.ensures.listed
 
 pub returns : goal.returns
 returns c =
-    some_allowed c.args.sets.now c.args.rows.now c.join.new.roots c.gather.new.joined c.list-pairs.new.pairs c.in-Some.few
+    some_allowed c.args.sets.now c.args.rows.now c.join.new.roots c.gather.new.joined c.list_pairs.new.pairs c.in-Some.few
     c.join.ensures c.if-not-gather.ensures c.in-Some.ensures c.requires.ready c.requires.few
-    c.search.new.sets c.read-off.new.choice c.told-sets c.search.array_long c.if-not-search.ensures c.read-off.ensures
+    c.search.new.sets c.read_off.new.choice c.told-sets c.search.array_long c.if-not-search.ensures c.read_off.ensures

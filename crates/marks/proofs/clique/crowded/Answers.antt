@@ -11,8 +11,8 @@ loop-size-init c = (
   candidate_new (replicate 512 0) 0 _ c.args.seed refl c.requires.seed (get_or-replicate 512 c.args.seed 0 0 c.requires.seed),
 )
 
-pub offset-bounds-sets-v : goal.offset-bounds-sets-v
-offset-bounds-sets-v c = let v = (c.loop-size.invariant.3 c.in-Some.v c.in-Some.is).0 in omega arith
+pub offset_bounds-sets-v : goal.offset_bounds-sets-v
+offset_bounds-sets-v c = let v = (c.loop-size.invariant.3 c.in-Some.v c.in-Some.is).0 in omega arith
 
 pub bounds-sets-v : goal.bounds-sets-v
 bounds-sets-v c = let v = (c.loop-size.invariant.3 c.in-Some.v c.in-Some.is).0 in omega arith

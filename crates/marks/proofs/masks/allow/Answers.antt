@@ -7,5 +7,5 @@ loop-row-init c = masked_none c.args.rows.now c.args.sets.now (omega arith) c.re
 
 pub loop-row-preserved : goal.loop-row-preserved
 loop-row-preserved c =
-    masked_more c.args.rows.now c.loop-row.row-index c.loop-row.sets c.loop-row.invariant c.marks-of.result
-    (c.requires.ready c.loop-row.row-index c.loop-row-test.true).first c.marks-of.ensures
+    masked_more c.args.rows.now c.loop-row.row-index c.loop-row.sets c.loop-row.invariant c.marks_of.result
+    (c.requires.ready c.loop-row.row-index c.loop-row-test.true).first c.marks_of.ensures

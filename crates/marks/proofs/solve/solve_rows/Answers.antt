@@ -26,6 +26,6 @@ pub returns : goal.returns
 returns c = (
   c.requires.admitted,
   allowed_chosen c.args.kinds.now c.args.rows.now (length c.args.values.now) c.requires.accepted c.allow.new.sets c.allow.ensures
-      c.choose.new.choice c.if-not-choose.ensures c.write-values.new.values (omega arith) c.write-values.ensures.written,
-  c.write-values.ensures.rest,
+      c.choose.new.choice c.if-not-choose.ensures c.write_values.new.values (omega arith) c.write_values.ensures.written,
+  c.write_values.ensures.rest,
 )

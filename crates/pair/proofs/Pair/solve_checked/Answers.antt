@@ -2,8 +2,8 @@ use Rattle.std.proofs.Common.{refl, arith, rules}
 use Rattle.pair.proofs.Sharing.{share_few, share_places, share_asks, both_unsolvable, both_solved}
 use Rattle.pair.proofs.Pair.solve_checked.Goals as goal
 
-pub ask-both-requires : goal.ask-both-requires
-ask-both-requires g c =
+pub ask_both-requires : goal.ask_both-requires
+ask_both-requires g c =
     let l = g.L.Domain.meaning c.args.self.now.left in
     let r = g.R.Domain.meaning c.args.self.now.right in
     let left = g.met.L.Domain.lawful c.args.self.now.left in
@@ -12,8 +12,8 @@ ask-both-requires g c =
     let odd = share_asks 1 c.args.kinds.now c.args.rows.now c.deal.result.1 c.deal.ensures.right l r left right _ c.requires in
     record { left = even; right = odd }
 
-pub put-back-requires : goal.put-back-requires
-put-back-requires g c =
+pub put_back-requires : goal.put_back-requires
+put_back-requires g c =
     let few = share_few 0 c.args.kinds.now c.args.rows.now c.deal.result.0 c.deal.ensures.left in
     record {
       listed = search rules;
@@ -23,8 +23,8 @@ put-back-requires g c =
           omega (arith, c.requires.few_variables);
     }
 
-pub put-back-requires-in-Solved : goal.put-back-requires-in-Solved
-put-back-requires-in-Solved g c =
+pub put_back-requires-in-Solved : goal.put_back-requires-in-Solved
+put_back-requires-in-Solved g c =
     let few = share_few 1 c.args.kinds.now c.args.rows.now c.deal.result.1 c.deal.ensures.right in
     record {
       listed = search rules;
@@ -45,8 +45,8 @@ returns-in-Unsolvable g c =
             _ _ _ _ c.in-Unsolvable.ensures.answers,
         refl,
       );
-      left = c.ask-both.ensures.left;
-      right = c.ask-both.ensures.right;
+      left = c.ask_both.ensures.left;
+      right = c.ask_both.ensures.right;
     }
 
 pub returns-in-Solved : goal.returns-in-Solved
@@ -57,8 +57,8 @@ returns-in-Solved g c =
           (g.L.Domain.meaning c.args.self.now.left) (g.R.Domain.meaning c.args.self.now.right)
           (g.met.L.Domain.lawful c.args.self.now.left) (g.met.R.Domain.lawful c.args.self.now.right)
           c.args.kinds.now c.args.rows.now _ c.requires c.deal.result.0 c.deal.result.1 c.deal.ensures.left c.deal.ensures.right
-          _ _ _ _ c.args.values.now c.put-back.new.values c.put-back-in-Solved.new.values
-          c.in-Solved.ensures.answers c.put-back.ensures c.put-back-in-Solved.ensures (omega (arith, c.requires.enough_room));
-      left = c.ask-both.ensures.left;
-      right = c.ask-both.ensures.right;
+          _ _ _ _ c.args.values.now c.put_back.new.values c.put_back-in-Solved.new.values
+          c.in-Solved.ensures.answers c.put_back.ensures c.put_back-in-Solved.ensures (omega (arith, c.requires.enough_room));
+      left = c.ask_both.ensures.left;
+      right = c.ask_both.ensures.right;
     }

@@ -15,7 +15,7 @@ dealt c =
     elim c.if-row-side.branch [
       | then-row-side w ↦ simp (w.count-is, w.out-is)
           (dealing_put (moved c.args.places.now) (row_on c.args.side) c.args.rows.now c.args.out.now c.loop-row.row-index c.loop-row.count c.loop-row.out c.loop-row.invariant.1 no_row _
-          c.loop-row-test.true (omega arith) (eq-eqb _ _ w.if-row-side.true) w.moved-row.ensures)
+          c.loop-row-test.true (omega arith) (eq-eqb _ _ w.if-row-side.true) w.moved_row.ensures)
       | else-row-side w ↦ simp (w.count-is, w.out-is)
           (dealing_skip (moved c.args.places.now) (row_on c.args.side) c.args.rows.now c.args.out.now c.loop-row.row-index c.loop-row.count c.loop-row.out c.loop-row.invariant.1 no_row
           c.loop-row-test.true (ne_eqb _ _ w.if-row-side.false))

@@ -2,8 +2,8 @@ use Rattle.std.proofs.Common.{sym, ◌∙◌, rules}
 use Rattle.domain.proofs.Failing.{failing_later, failing_here, failing_nowhere}
 use Rattle.sheet.proofs.setup.first_unknown.Goals as goal
 
-pub returns-then-not-is-known : goal.returns-then-not-is-known
-returns-then-not-is-known g c =
+pub returns-then-not-is_known : goal.returns-then-not-is_known
+returns-then-not-is_known g c =
     sym
     (c.loop-i.invariant
     ∙ failing_here (g.D.Domain.meaning c.args.domain.now).knows c.args.kinds.now c.loop-i.i 0 c.loop-i-test.true (search rules))

@@ -21,8 +21,8 @@ returns-in-3 c =
     let e : c.args.row.predicate.form ≡ 3 = search rules in
     stands_apart_at_most c.args.zero c.args.row c.requires _ e (at_most_weight c.args.row.predicate.constant (ranged c.args.zero c.args.row c.requires) f)
 
-pub returns-in-default : goal.returns-in-default
-returns-in-default c =
+pub returns-in_default : goal.returns-in_default
+returns-in_default c =
     let f : SFits w32 c.args.row.predicate.constant = search rules in
     let e : c.args.row.predicate.form ≡ 4 = last_form c.args.row.predicate.form (known_parts c.args.row.predicate c.requires.known).1 (search rules) (search rules) (search rules) in
     stands_apart_above c.args.zero c.args.row c.requires _ e (above_weight c.args.row.predicate.constant (ranged c.args.zero c.args.row c.requires) f)

@@ -25,4 +25,4 @@ returns-then-bounds-ne-ZERO c =
 
 pub returns : goal.returns
 returns c =
-    lowest_decided (length c.args.bounds.now) c.requires.some c.args.links.now c.start.new.bounds c.start.ensures c.settle.new.bounds (search rules) c.settle.result c.if-not-settle.false c.settle.ensures c.if-bounds-ne-ZERO.false c.below-ceiling.result c.below-ceiling.ensures
+    lowest_decided (length c.args.bounds.now) c.requires.some c.args.links.now c.start.new.bounds c.start.ensures c.settle.new.bounds (search rules) c.settle.result c.if-not-settle.false c.settle.ensures c.if-bounds-ne-ZERO.false c.below_ceiling.result c.below_ceiling.ensures

@@ -10,8 +10,8 @@ use Rattle.concept.proofs.Counting.{counted_more, root_counted}
 use Rattle.concept.proofs.Places.{lower_at}
 use Rattle.concept.proofs.checked.Checked.count.Goals as goal
 
-pub term-counts-requires : goal.term-counts-requires
-term-counts-requires c =
+pub term_counts-requires : goal.term_counts-requires
+term_counts-requires c =
     let table = c.args.self.now in
     let n : length table.terms ≡ 64 = search rules in
     let few : table.len ≤ 64 = table.few in
@@ -27,9 +27,9 @@ loop-place-preserved c =
     let few : table.len ≤ 64 = table.few in
     let i = c.loop-place.place in
     let lt : i < 64 = omega arith in (
-      length-set c.loop-place.counts i c.term-counts.result ∙ c.loop-place.invariant.0,
-      counted_more table.terms c.loop-place.counts i (Atom 0) c.term-counts.result (omega arith) (omega arith) c.loop-place.invariant.1
-          (c.term-counts.ensures (forms (take i table.terms)) (ap (λ k. take k c.loop-place.counts) (sub-zero i) ∙ c.loop-place.invariant.1)),
+      length-set c.loop-place.counts i c.term_counts.result ∙ c.loop-place.invariant.0,
+      counted_more table.terms c.loop-place.counts i (Atom 0) c.term_counts.result (omega arith) (omega arith) c.loop-place.invariant.1
+          (c.term_counts.ensures (forms (take i table.terms)) (ap (λ k. take k c.loop-place.counts) (sub-zero i) ∙ c.loop-place.invariant.1)),
     )
 
 pub returns-in-Plain : goal.returns-in-Plain

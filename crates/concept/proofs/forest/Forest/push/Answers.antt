@@ -5,8 +5,8 @@ use Rattle.concept.specs.Held.{items}
 use Rattle.concept.proofs.Items.{fields, length_items, push_ordered}
 use Rattle.concept.proofs.forest.Forest.push.Goals as goal
 
-pub invariant-of-result : goal.invariant-of-result
-invariant-of-result c =
+pub invariant_of-result : goal.invariant_of-result
+invariant_of-result c =
     let f = c.args.self in
     let n : length f.nodes ≡ 256 = search rules in
     let same : length (items f) ≡ f.len = length_items f in

@@ -15,8 +15,8 @@ push-leaf-requires c =
     let k = c.args.constraint in
     record { room = omega (arith, c.requires); takes = takes_leaf c.args.self (Holds k.complement k.u k.v) refl }
 
-pub write-undefined-nowhere-requires : goal.write-undefined-nowhere-requires
-write-undefined-nowhere-requires c =
+pub write_undefined-nowhere-requires : goal.write_undefined-nowhere-requires
+write_undefined-nowhere-requires c =
     let k = c.args.constraint in
     let size : nodes (constraint_forms k).turned ≡ 1 + (1 + nodes (undefined (steps k.u))) = ap nodes (violated_one k c.if-constraint-eq1.true) in
     let leaf = leaf_as (Holds k.complement k.u k.v) refl c.push-leaf.ensures in
@@ -27,10 +27,10 @@ push-requires c =
     let k = c.args.constraint in
     let size : nodes (constraint_forms k).turned ≡ 1 + (1 + nodes (undefined (steps k.u))) = ap nodes (violated_one k c.if-constraint-eq1.true) in
     let leaf = leaf_as (Holds k.complement k.u k.v) refl c.push-leaf.ensures in
-    let none = c.write-undefined-nowhere.ensures in
+    let none = c.write_undefined-nowhere.ensures in
     record {
       room = omega (arith, c.requires, leaf.longer, none.longer);
-      takes = takes_trees c.args.self (Or c.push-leaf.result.1 c.write-undefined-nowhere.result.1) leaf none refl;
+      takes = takes_trees c.args.self (Or c.push-leaf.result.1 c.write_undefined-nowhere.result.1) leaf none refl;
     }
 
 pub returns-then-constraint-eq1 : goal.returns-then-constraint-eq1
@@ -38,10 +38,10 @@ returns-then-constraint-eq1 c =
     let k = c.args.constraint in
     let form : Concept → Type 0 = Grown (items c.args.self) (items c.push.result.0) c.push.result.1 in
     let leaf = leaf_as (Holds k.complement k.u k.v) refl c.push-leaf.ensures in
-    subst form (sym (violated_one k c.if-constraint-eq1.true)) (disj_grown leaf c.write-undefined-nowhere.ensures c.push.ensures)
+    subst form (sym (violated_one k c.if-constraint-eq1.true)) (disj_grown leaf c.write_undefined-nowhere.ensures c.push.ensures)
 
-pub write-or-nowhere-requires : goal.write-or-nowhere-requires
-write-or-nowhere-requires c =
+pub write_or_nowhere-requires : goal.write_or_nowhere-requires
+write_or_nowhere-requires c =
     let k = c.args.constraint in
     let size : nodes (constraint_forms k).turned ≡ 1 + (1 + nodes (nowhere k.u k.v)) = ap nodes (violated_two k c.if-constraint-eq1.false) in
     record { alone = refl; room = omega (arith, c.requires) }
@@ -49,5 +49,5 @@ write-or-nowhere-requires c =
 pub returns-else-constraint-eq1 : goal.returns-else-constraint-eq1
 returns-else-constraint-eq1 c =
     let k = c.args.constraint in
-    let form : Concept → Type 0 = Grown (items c.args.self) (items c.write-or-nowhere.result.0) c.write-or-nowhere.result.1 in
-    subst form (sym (violated_two k c.if-constraint-eq1.false)) c.write-or-nowhere.ensures
+    let form : Concept → Type 0 = Grown (items c.args.self) (items c.write_or_nowhere.result.0) c.write_or_nowhere.result.1 in
+    subst form (sym (violated_two k c.if-constraint-eq1.false)) c.write_or_nowhere.ensures

@@ -1,17 +1,20 @@
-use Rattle.std.proofs.Common.{◌≡◌, ◌-◌, length, take, sym, refl, ap, ◌∙◌, arith}
+use Rattle.std.proofs.Common.{◌-◌, length, sym, refl, ap, ◌∙◌, arith}
 use Rattle.std.proofs.lemmas.List.{length-take-le, take_all, take-take}
 use Rattle.sheet.specs.Showing.{view}
 use Rattle.sheet.proofs.Marking.{marks_kept}
 use Rattle.sheet.proofs.Passing.{closes, keeps, same_view}
 use Rattle.sheet.proofs.sheet.Sheet.keep_trial.Goals as goal
 
-pub invariant-of-self : goal.invariant-of-self
-invariant-of-self g c =
+pub invariant_of-self : goal.invariant_of-self
+invariant_of-self g c =
     let s = c.args.self.now in
-    let lt = c.in-Some.ensures.within in (
-      (s.bounded.0, (s.bounded.1.0, (s.bounded.1.1.0, (omega arith, s.bounded.1.1.1.1)))),
-      (s.held, (marks_kept s.count s.trials s.nesting c.in-Some.place lt s.marked, (s.sized, tt))),
-    )
+    let lt = c.in-Some.ensures.within in
+    record {
+      bounded = (s.bounded.0, (s.bounded.1.0, (s.bounded.1.1.0, (omega arith, s.bounded.1.1.1.1))));
+      held = s.held;
+      marked = marks_kept s.count s.trials s.nesting c.in-Some.place lt s.marked;
+      sized = s.sized;
+    }
 
 pub returns-in-Some : goal.returns-in-Some
 returns-in-Some g c =

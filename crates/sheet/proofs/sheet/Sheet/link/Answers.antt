@@ -5,12 +5,12 @@ use Rattle.sheet.proofs.Keeping.{values_kept}
 use Rattle.sheet.proofs.Passing.{some_objects}
 use Rattle.sheet.proofs.sheet.Sheet.link.Goals as goal
 
-pub push-other-requires : goal.push-other-requires
-push-other-requires g c =
+pub push_other-requires : goal.push_other-requires
+push_other-requires g c =
     let s = c.args.self.now in
     record {
       other = refl;
-      ready = some_objects (view s) c.args.from c.args.to (sym c.are-objects.ensures ∙ c.if-not-are-objects.false);
-      room = omega (arith, c.if-totals-ge-MOST-OTHERS.false, ap (λ (a : Totals). a.others) c.totals.ensures);
+      ready = some_objects (view s) c.args.from c.args.to (sym c.are_objects.ensures ∙ c.if-not-are_objects.false);
+      room = omega (arith, c.if-totals-ge-MOST_OTHERS.false, ap (λ (a : Totals). a.others) c.totals.ensures);
       values = omega (arith, values_kept s.forest s.objects (take s.count s.statements) s.held);
     }

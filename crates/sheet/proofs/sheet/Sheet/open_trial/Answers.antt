@@ -1,4 +1,4 @@
-use Rattle.std.proofs.Common.{◌≡◌, ◌+◌, length, take, None, sym, refl, ap, ◌∙◌, arith}
+use Rattle.std.proofs.Common.{◌≡◌, ◌+◌, length, take, None, refl, ◌∙◌, arith}
 use Rattle.std.proofs.lemmas.List.{length-set, length-take-le, take_more_set}
 use Rattle.std.proofs.lemmas.Bool.{and_from, lt-ltb}
 use Rattle.sheet.specs.declared.refusal.Refusal.TheVariants.{Trials}
@@ -8,20 +8,17 @@ use Rattle.sheet.proofs.Marking.{rising_push}
 use Rattle.sheet.proofs.Passing.{passes, same_view}
 use Rattle.sheet.proofs.sheet.Sheet.open_trial.Goals as goal
 
-pub invariant-of-self : goal.invariant-of-self
-invariant-of-self g c =
+pub invariant_of-self : goal.invariant_of-self
+invariant_of-self g c =
     let s = c.args.self.now in
-    let n = s.sized.1 in (
-      (s.bounded.0, (s.bounded.1.0, (s.bounded.1.1.0, (omega arith, omega arith)))),
-      (
-        s.held,
-        (
-          rw (take_more_set s.trials s.nesting (record { number = s.opened + 1; mark = s.count }) (omega arith))
-              (rising_push 0 s.count (s.opened + 1) (take s.nesting s.trials) s.marked),
-          ((s.sized.0, length-set s.trials s.nesting (record { number = s.opened + 1; mark = s.count }) ∙ s.sized.1), tt),
-        ),
-      ),
-    )
+    let n = s.sized.1 in
+    record {
+      bounded = (s.bounded.0, (s.bounded.1.0, (s.bounded.1.1.0, (omega arith, omega arith))));
+      held = s.held;
+      marked = rw (take_more_set s.trials s.nesting (record { number = s.opened + 1; mark = s.count }) (omega arith))
+          (rising_push 0 s.count (s.opened + 1) (take s.nesting s.trials) s.marked);
+      sized = (s.sized.0, length-set s.trials s.nesting (record { number = s.opened + 1; mark = s.count }) ∙ s.sized.1);
+    }
 
 pub returns : goal.returns
 returns g c =

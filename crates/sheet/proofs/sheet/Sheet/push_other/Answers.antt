@@ -1,4 +1,4 @@
-use Rattle.std.proofs.Common.{◌≡◌, ◌+◌, ◌<◌, length, take, set, sym, refl, ap, ◌∙◌, arith}
+use Rattle.std.proofs.Common.{◌+◌, ◌<◌, take, refl, ap, ◌∙◌, arith}
 use Rattle.std.proofs.lemmas.List.{length-set, take_more_set}
 use Rattle.sheet.specs.Layout.{in_force}
 use Rattle.sheet.specs.Showing.{view}
@@ -13,19 +13,19 @@ bounds-self-self g c =
     let n = s.sized.0 in
     room_for_other s.forest s.objects s.statements s.count (omega arith) s.held c.requires.room
 
-pub invariant-of-self : goal.invariant-of-self
-invariant-of-self g c =
+pub invariant_of-self : goal.invariant_of-self
+invariant_of-self g c =
     let s = c.args.self.now in
     let n = s.sized.0 in
     let less : s.count < 320 = room_for_other s.forest s.objects s.statements s.count (omega arith) s.held c.requires.room in
-    let ready = c.requires.ready in (
-      (s.bounded.0, (omega arith, (omega arith, s.bounded.1.1.1))),
-      (
-        rw (take_more_set s.statements s.count c.args.statement (omega arith))
-            (other_sound s.forest s.objects (take s.count s.statements) c.args.statement c.requires.other s.held c.requires.room c.requires.values),
-        (rising_more 0 s.count (s.count + 1) (take s.nesting s.trials) (omega arith) s.marked, ((length-set s.statements s.count c.args.statement ∙ s.sized.0, s.sized.1), tt)),
-      ),
-    )
+    let ready = c.requires.ready in
+    record {
+      bounded = (s.bounded.0, (omega arith, (omega arith, s.bounded.1.1.1)));
+      held = rw (take_more_set s.statements s.count c.args.statement (omega arith))
+          (other_sound s.forest s.objects (take s.count s.statements) c.args.statement c.requires.other s.held c.requires.room c.requires.values);
+      marked = rising_more 0 s.count (s.count + 1) (take s.nesting s.trials) (omega arith) s.marked;
+      sized = (length-set s.statements s.count c.args.statement ∙ s.sized.0, s.sized.1);
+    }
 
 pub returns : goal.returns
 returns g c =

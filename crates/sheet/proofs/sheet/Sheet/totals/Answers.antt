@@ -3,8 +3,8 @@ use Rattle.sheet.specs.Totals.{tally}
 use Rattle.sheet.proofs.Keeping.{few_nodes, few_valued, few_comparisons, few_others, totals_right}
 use Rattle.sheet.proofs.sheet.Sheet.totals.Goals as goal
 
-pub sum-up-requires : goal.sum-up-requires
-sum-up-requires g c =
+pub sum_up-requires : goal.sum_up-requires
+sum_up-requires g c =
     let s = c.args.self.now in
     let front : s.count - 0 ≡ s.count = omega arith in
     let ss = take s.count s.statements in
@@ -20,4 +20,4 @@ pub returns : goal.returns
 returns g c =
     let s = c.args.self.now in
     let front : s.count - 0 ≡ s.count = omega arith in
-    c.sum-up.ensures ∙ (ap (λ n. tally (take n s.statements)) front ∙ sym (totals_right s.forest s.objects (take s.count s.statements) s.held))
+    c.sum_up.ensures ∙ (ap (λ n. tally (take n s.statements)) front ∙ sym (totals_right s.forest s.objects (take s.count s.statements) s.held))
