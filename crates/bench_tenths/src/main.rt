@@ -76,7 +76,7 @@ fn measure(rt: &HostRuntime, name: &str, rows: &[Row], timed: bool) -> anyhow::R
 fn wants_time(rt: &HostRuntime) -> anyhow::Result<bool> {
     let mut timed = false;
     for word in env::args(rt)? {
-        if word == "time" {
+        if word.as_str() == "time" {
             timed = true;
         }
     }

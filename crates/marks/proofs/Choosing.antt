@@ -1,12 +1,12 @@
 -- From a choice for the variables to one for their roots, and back.
-use Rattle.std.proofs.Common.{◌≡◌, ℕ, zero, suc, ◌+◌, ◌-◌, ◌/◌, ◌%◌, ◌^◌, ◌<◌, ◌≤◌, Bool, true, false, cond, not, eqb, ◌⊎◌, List, length, get_or, take, sym, refl, ap, ◌∙◌, subst, inl, inr, pow-suc, arith}
+use Rattle.std.proofs.Common.{◌≡◌, ℕ, zero, suc, ◌-◌, ◌/◌, ◌%◌, ◌^◌, ◌<◌, ◌≤◌, true, not, eqb, List, length, get_or, take, sym, refl, ap, ◌∙◌, subst, inl, inr, pow-suc, arith}
 use lib.Count.{count_trailing_zeros, under}
 use Rattle.std.proofs.lemmas.List.{get_or-take, length-take}
-use Rattle.std.proofs.lemmas.Bool.{cases_eq, both_ways, eqb-true, eqb-false, eq-eqb, ne_eqb, cond-true, cond-false, not-true, not_from_false}
+use Rattle.std.proofs.lemmas.Bool.{cases_eq, eqb-true, eqb-false, eq-eqb, ne_eqb, cond-true, cond-false, not-true, not_from_false}
 use Rattle.domain.specs.declared.predicate.Row.{Row}
 use Rattle.marks.specs.declared.pair.Pair.{Pair}
 use Rattle.marks.specs.Marks.{has}
-use Rattle.marks.specs.Choices.{Within, Fits, Apart, Full, Listed, Settled, set_of, nth_pair}
+use Rattle.marks.specs.Choices.{Fits, Apart, Listed, Settled, set_of, nth_pair}
 use Rattle.marks.specs.Rows.{nth_row, two, Ready, Allowed}
 use Rattle.marks.specs.Joins.{root_of, Equal, Rooted, Joined, Gathered, Unequal, Paired}
 use Rattle.marks.proofs.Sets.{has_zero, has_suc}

@@ -1,11 +1,11 @@
 -- Growing a clique, member by member.
-use Rattle.std.proofs.Common.{◌≡◌, ℕ, ◌+◌, ◌<◌, ◌≤◌, Bool, true, false, cond, ◌||◌, eqb, ◌⊎◌, List, length, get_or, Some, Option, sym, refl, ap, ◌∙◌, subst, inl, inr, arith}
+use Rattle.std.proofs.Common.{◌≡◌, ℕ, ◌+◌, ◌<◌, ◌≤◌, true, cond, eqb, ◌⊎◌, List, length, get_or, Some, Option, sym, refl, ap, ◌∙◌, subst, inl, inr, arith}
 use lib.Bits.{bit_or, or_lt}
 use lib.Count.{ones}
 use Rattle.std.proofs.lemmas.Bool.{cases_eq, eq-eqb, ne_eqb, cond-true, cond-false, or_left, or_right}
 use Rattle.marks.specs.declared.pair.Pair.{Pair}
 use Rattle.marks.specs.Marks.{has}
-use Rattle.marks.specs.Choices.{Fits, Within, Apart, set_of, nth_pair}
+use Rattle.marks.specs.Choices.{Fits, set_of}
 use Rattle.marks.specs.Cliques.{Differ, Members, Near, Nearer, Candidate}
 use Rattle.marks.proofs.Sets.{has_or}
 use Rattle.marks.proofs.Pigeons.{no_more_than_ones}

@@ -1,13 +1,13 @@
 -- Gathering the sets of joined variables.
-use Rattle.std.proofs.Common.{◌≡◌, ℕ, ◌+◌, ◌<◌, ◌≤◌, Bool, true, false, ◌&&◌, List, length, get_or, set, sym, refl, ap, ◌∙◌, subst, inl, inr, arith, below_more}
+use Rattle.std.proofs.Common.{◌≡◌, ℕ, ◌+◌, ◌<◌, true, List, length, set, sym, ap, ◌∙◌, subst, inl, inr, arith, below_more}
 use lib.Bits.{bit_and, and_le_l}
 use Rattle.std.proofs.lemmas.List.{get_or-set_same, get_or-set_other, length-set}
-use Rattle.std.proofs.lemmas.Bool.{cases_eq, and_parts, and_from}
+use Rattle.std.proofs.lemmas.Bool.{cases_eq, and_parts}
 use Rattle.marks.specs.Marks.{has}
-use Rattle.marks.specs.Choices.{Within, Full, set_of}
+use Rattle.marks.specs.Choices.{Within, set_of}
 use Rattle.marks.specs.Rows.{Blank}
 use Rattle.marks.specs.Joins.{root_of, Rooted, Gathered}
-use Rattle.marks.proofs.Sets.{has_all, has_and, has_not_empty}
+use Rattle.marks.proofs.Sets.{has_all, has_not_empty}
 use Rattle.marks.proofs.Masking.{has_less_same, has_less_before, has_less_after}
 
 module _ (sets roots : List ℕ) (size : length sets ≡ 512) where

@@ -1,11 +1,11 @@
 -- Giving a variable a mark, pair by pair.
-use Rattle.std.proofs.Common.{◌≡◌, ℕ, ◌+◌, ◌<◌, ◌≤◌, Bool, true, false, not, ◌&&◌, eqb, ◌⊎◌, List, length, get_or, set, Some, MatchBool, sym, refl, ap, ◌∙◌, subst, inl, inr, arith, below_more}
+use Rattle.std.proofs.Common.{◌≡◌, ℕ, ◌+◌, ◌<◌, ◌≤◌, Bool, true, false, not, eqb, List, length, set, Some, MatchBool, sym, refl, ap, ◌∙◌, subst, inl, inr, arith, below_more}
 use Rattle.std.proofs.lemmas.List.{get_or-set_same, get_or-set_other, length-set}
-use Rattle.std.proofs.lemmas.Bool.{both_ways, cases_Bool, cases_eq, and_parts, and_from, eqb-true, eqb-false, eq-eqb, ne_eqb, not-false, not-true, not_from_true, not_from_false}
+use Rattle.std.proofs.lemmas.Bool.{both_ways, cases_Bool, cases_eq, and_parts, and_from, eqb-true, eqb-false, eq-eqb, ne_eqb, not-false, not-true, not_from_false}
 use Rattle.marks.specs.declared.pair.Pair.{Pair}
 use Rattle.marks.specs.Marks.{has}
-use Rattle.marks.specs.Choices.{Fits, Within, Full, Narrowed, Given, Never, Forbidden, Parted, Other, set_of, nth_pair, Touches, shares, Listed}
-use Rattle.marks.proofs.Sets.{has_not_empty, none_in_zero}
+use Rattle.marks.specs.Choices.{Fits, Within, Full, Narrowed, Given, Never, Forbidden, Parted, Other, set_of, nth_pair, Listed}
+use Rattle.marks.proofs.Sets.{has_not_empty}
 use Rattle.marks.proofs.Sharing.{not_shared}
 
 -- what stands once the pairs below n have been looked at

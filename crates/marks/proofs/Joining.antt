@@ -1,9 +1,9 @@
 -- Joining variables, row by row.
-use Rattle.std.proofs.Common.{◌≡◌, ℕ, ◌+◌, ◌<◌, ◌≤◌, Bool, true, false, cond, eqb, List, length, get_or, sym, refl, ap, ◌∙◌, subst, inl, inr, arith, below_more}
+use Rattle.std.proofs.Common.{◌≡◌, ℕ, ◌+◌, ◌<◌, eqb, List, length, sym, refl, ap, ◌∙◌, subst, inl, inr, arith, below_more}
 use Rattle.std.proofs.lemmas.Bool.{cases_eq, eq-eqb, ne_eqb, cond-true, cond-false, cond_both}
 use Rattle.domain.specs.declared.predicate.Row.{Row}
 use Rattle.marks.specs.Rows.{nth_row, Ready}
-use Rattle.marks.specs.Joins.{root_of, Equal, Rooted, Joined, Alone, renamed}
+use Rattle.marks.specs.Joins.{root_of, Rooted, Joined, Alone, renamed}
 
 module _ (rows : List Row) where
   pub joined_none : (roots : List ℕ) → length roots ≡ 512 → Alone 512 roots → Joined rows 0 roots

@@ -1,11 +1,11 @@
 -- Taking marks from the sets, row by row.
-use Rattle.std.proofs.Common.{◌≡◌, ℕ, ◌+◌, ◌<◌, ◌≤◌, Bool, true, false, ◌&&◌, List, length, get_or, set, sym, refl, ap, ◌∙◌, subst, inl, inr, arith, below_more}
+use Rattle.std.proofs.Common.{◌≡◌, ℕ, ◌+◌, ◌<◌, true, ◌&&◌, List, length, get_or, set, sym, ap, ◌∙◌, inl, inr, arith, below_more}
 use lib.Bits.{bit_and}
 use Rattle.std.proofs.lemmas.List.{get_or-set_same, get_or-set_other, length-set}
 use Rattle.std.proofs.lemmas.Bool.{cases_eq, and_parts, and_from}
 use Rattle.domain.specs.declared.predicate.Row.{Row}
 use Rattle.marks.specs.Marks.{has}
-use Rattle.marks.specs.Rows.{nth_row, one, Masked, Blank, Suits}
+use Rattle.marks.specs.Rows.{nth_row, one, Masked, Blank}
 use Rattle.marks.proofs.Sets.{has_all, has_and}
 
 pub masked_none : (rows : List Row) (sets : List ℕ) → length sets ≡ 512 → Blank sets → Masked rows 0 sets

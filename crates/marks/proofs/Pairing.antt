@@ -1,11 +1,11 @@
 -- Listing the pairs, row by row.
-use Rattle.std.proofs.Common.{◌≡◌, ℕ, ◌+◌, ◌<◌, ◌≤◌, List, length, get_or, set, sym, refl, ap, ◌∙◌, subst, inl, inr, arith, below_more}
+use Rattle.std.proofs.Common.{◌≡◌, ℕ, ◌+◌, ◌<◌, List, length, set, sym, ◌∙◌, subst, arith, below_more}
 use Rattle.std.proofs.lemmas.List.{get_or-set_same, get_or-set_other, length-set}
 use Rattle.domain.specs.declared.predicate.Row.{Row}
 use Rattle.marks.specs.declared.pair.Pair.{Pair}
 use Rattle.marks.specs.Choices.{nth_pair}
 use Rattle.marks.specs.Rows.{nth_row}
-use Rattle.marks.specs.Joins.{root_of, Unequal, Paired}
+use Rattle.marks.specs.Joins.{root_of, Paired}
 
 module _ (rows : List Row) (roots : List ℕ) where
   pub paired_none : (pairs : List Pair) → length pairs ≡ 256 → Paired rows roots 0 pairs 0

@@ -1,9 +1,9 @@
 -- One mark after another is tried, and those that fail are never taken.
-use Rattle.std.proofs.Common.{◌≡◌, ℕ, ◌+◌, ◌<◌, ◌≤◌, Bool, true, false, ◌⊎◌, List, length, get_or, MatchBool, sym, refl, ap, ◌∙◌, inl, inr, arith}
+use Rattle.std.proofs.Common.{◌≡◌, ℕ, ◌+◌, ◌<◌, ◌≤◌, Bool, true, false, List, length, MatchBool, sym, ap, ◌∙◌, inl, inr, arith}
 use Rattle.std.proofs.lemmas.Bool.{both_ways, cases_eq}
 use Rattle.marks.specs.declared.pair.Pair.{Pair}
 use Rattle.marks.specs.Marks.{has}
-use Rattle.marks.specs.Choices.{Fits, Never, Needless, Given, Settled, Alike, set_of}
+use Rattle.marks.specs.Choices.{Fits, Never, Needless, Given, Alike, set_of}
 use Rattle.marks.proofs.Swap.{swapped}
 
 module _ (sets : List ℕ) (pairs : List Pair) (v b : ℕ) where

@@ -1,10 +1,10 @@
 -- Whether two sets share a mark.
-use Rattle.std.proofs.Common.{◌≡◌, ℕ, ◌<◌, ◌≤◌, Bool, true, false, not, ◌&&◌, eqb, List, length, get_or, sym, refl, ap, ◌∙◌, inl, inr, arith}
+use Rattle.std.proofs.Common.{◌≡◌, ℕ, ◌<◌, true, false, List, length, sym, ap, ◌∙◌, inl, inr, arith}
 use lib.Bits.{bit_and, and_le_l}
 use Rattle.std.proofs.lemmas.Bool.{both_ways, cases_Bool, and_from, and_parts, eqb-true, eq-eqb, ne_eqb, not-false, not_from_true, not_from_false}
 use Rattle.marks.specs.declared.pair.Pair.{Pair}
 use Rattle.marks.specs.Marks.{has}
-use Rattle.marks.specs.Choices.{shares, set_of, Narrowed, nth_pair, Full, Listed, Given, Touches}
+use Rattle.marks.specs.Choices.{shares, set_of, Narrowed, nth_pair, Listed, Given, Touches}
 use Rattle.marks.proofs.Sets.{has_and, empty_zero, none_in_zero}
 use Rattle.marks.proofs.Fewer.{count, fewer}
 

@@ -1,15 +1,15 @@
 -- From choices of values for the rows to choices of marks from the sets, and back.
-use Rattle.std.proofs.Common.{◌≡◌, ℕ, ◌+◌, ◌<◌, ◌≤◌, Bool, true, false, cond, not, ◌&&◌, ◌||◌, eqb, ltb, leb, ◌⊎◌, List, length, get_or, take, drop, ℤ, pos, negsuc, sym, refl, ap, ◌∙◌, subst, inl, inr, arith}
+use Rattle.std.proofs.Common.{◌≡◌, ℕ, ◌<◌, ◌≤◌, Bool, true, false, cond, not, ◌&&◌, ◌||◌, eqb, ltb, ◌⊎◌, List, length, get_or, take, ℤ, pos, negsuc, sym, refl, ap, ◌∙◌, subst, inl, inr, arith}
 use lib.Signed.{le_z}
 use Rattle.std.proofs.ByRecursion.{All-get_or, All-from_get_or}
-use Rattle.std.proofs.lemmas.List.{get_or-take, get_or_past, get_or_default, length-take}
-use Rattle.std.proofs.lemmas.Bool.{cases_eq, cases_lt, both_ways, and_parts, and_from, or_cases, or_left, or_right, eqb-true, eqb-false, eq-eqb, ne_eqb, ltb-true, leb-true, le-leb, cond-true, cond-false, cases_Bool}
+use Rattle.std.proofs.lemmas.List.{get_or-take, get_or_past, length-take}
+use Rattle.std.proofs.lemmas.Bool.{cases_eq, cases_lt, both_ways, and_parts, and_from, or_cases, or_left, or_right, eqb-true, eq-eqb, ne_eqb, ltb-true, leb-true, le-leb, cond-true}
 use Rattle.domain.specs.declared.predicate.Row.{Row}
 use Rattle.domain.specs.declared.predicate.Predicate.{Predicate}
 use Rattle.domain.specs.Meaning.{known, tested}
-use Rattle.domain.specs.Solving.{Chosen, Kept, Accepted, fit, names}
+use Rattle.domain.specs.Solving.{Chosen, Kept, Accepted, fit}
 use Rattle.marks.specs.Marks.{marks, has, nat, in_range, places, says}
-use Rattle.marks.specs.Rows.{nth_row, one, two, Proper, Ready, Allowed, Masked, Suits}
+use Rattle.marks.specs.Rows.{nth_row, one, two, Ready, Allowed, Masked}
 use Rattle.marks.specs.Law.{four_forms, mark_of}
 
 -- a test that is counted

@@ -1,12 +1,11 @@
 -- Marks is lawful.
-use Rattle.std.specs.Prelude.{◌≡◌, ℕ, ◌^◌, ◌<◌, ◌≤◌, Bool, true, false, cond, not, ◌&&◌, ◌||◌, ◌⊎◌, ℤ, pos, negsuc, ◌≤ℤ◌, FitsSigned, ◌==◌, int_le, nat_lt, refl}
+use Rattle.std.specs.Prelude.{◌≡◌, ℕ, ◌≤◌, Bool, true, false, cond, not, ◌&&◌, ◌||◌, ◌⊎◌, ℤ, pos, negsuc, ◌≤ℤ◌, FitsSigned, ◌==◌, int_le, nat_lt, refl}
 use Rattle.std.proofs.Common.{inl, inr, sym, subst, arith}
 use Rattle.std.specs.Int.{w32}
 use Rattle.std.proofs.lemmas.Bool.{and_parts, eqb-true, leb-true, cases_eq, ne_eqb, both_ways, cond_both}
-use Rattle.std.proofs.lemmas.Bool.Decides.{nat_tests}
 use Rattle.std.proofs.lemmas.Int.{ints}
 use Rattle.domain.specs.declared.predicate.Predicate.{Predicate}
-use Rattle.domain.specs.Meaning.{Lawful, Complementary, known}
+use Rattle.domain.specs.Meaning.{Lawful, Complementary}
 use Rattle.marks.specs.Marks.{marks, in_range, places, says, has, nat, turned}
 
 -- a value of the domain is a natural number up to 15

@@ -1,6 +1,5 @@
 -- The meaning of Marks: the marks 0 to 15, sets of them, and whether two are the same.
-use Rattle.std.specs.Prelude.{ℕ, ◌/◌, ◌%◌, ◌^◌, Bool, true, false, cond, not, ◌&&◌, ◌||◌, ℤ, pos, negsuc, ◌==◌, int_le}
-use Rattle.domain.specs.declared.predicate.Predicate.{Predicate}
+use Rattle.std.specs.Prelude.{ℕ, ◌/◌, ◌%◌, ◌^◌, Bool, false, cond, not, ◌&&◌, ◌||◌, ℤ, pos, negsuc, ◌==◌, int_le}
 use Rattle.domain.specs.Meaning.{Meaning}
 
 -- bit x of the number m is 1: the set m has the mark x

@@ -1,5 +1,5 @@
 -- What the rows of Marks say: forms 1 and 2 of one mark, forms 3 and 4 of two.
-use Rattle.std.specs.Prelude.{◌≡◌, ℕ, ◌<◌, ◌≤◌, Bool, true, cond, not, List, length, pos, ◌==◌, ◌≢◌, slice_index, slice_index_or}
+use Rattle.std.specs.Prelude.{◌≡◌, ℕ, ◌<◌, Bool, true, cond, not, List, length, pos, ◌==◌, ◌≢◌, slice_index, slice_index_or}
 use Rattle.domain.specs.declared.predicate.Row.{Row}
 use Rattle.marks.specs.Marks.{has, nat}
 use Rattle.marks.specs.Choices.{Within}

@@ -5,7 +5,7 @@ use Rattle.std.proofs.ByRecursion.{All-get_or, All-from_get_or, All-weaker}
 use Rattle.std.proofs.lemmas.List.{get_or_past}
 use Rattle.std.proofs.lemmas.Int.{ints}
 use Rattle.std.proofs.lemmas.Bool.{and_parts, and_from, or_cases, or_left, or_right, cases_lt, eqb-true, eq-eqb, ltb-true}
-use Rattle.std.specs.List.{AllByRecursion as All}
+use Rattle.std.specs.List.{AllByRecursion}
 use Rattle.domain.proofs.Failing.{no_row}
 use Rattle.domain.specs.declared.predicate.Predicate.{Predicate}
 use Rattle.domain.specs.declared.predicate.Row.{Row}
@@ -80,11 +80,11 @@ fit_placed kinds row f =
     }
 
 module _ (kinds : List ℕ) (rows : List Row) (room : ℕ) (accepted : Accepted tenths kinds rows room) where
-  pub all_placed : All (Placed (length kinds)) rows
+  pub all_placed : AllByRecursion (Placed (length kinds)) rows
   all_placed = All-weaker (λ r. fit tenths kinds r ≡ true) (Placed (length kinds)) (fit_placed kinds) rows accepted.fit_rows
 
   module _ (links : List Link) (size : length links ≡ length rows) (stands : (k : ℕ) → k < length rows → Stands (length kinds) (get_or rows k no_row) (get_or links k no_link)) where
-    pub all_fair : All (Fair (length kinds + 1)) links
+    pub all_fair : AllByRecursion (Fair (length kinds + 1)) links
     all_fair = All-from_get_or (Fair (length kinds + 1)) links no_link (λ k h. (stands k (omega arith)).fair)
 
     module _ (vs : List ℤ) (ch : Chosen tenths kinds rows vs) where

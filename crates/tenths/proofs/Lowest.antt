@@ -3,7 +3,7 @@ use Rattle.std.proofs.Common.{◌≡◌, ℕ, ◌-◌, ◌<◌, ◌≤◌, Bool,
 use Rattle.std.proofs.ByRecursion.{All-get_or, All-from_get_or}
 use Rattle.std.proofs.lemmas.List.{get_or-set_same, get_or-set_other, get_or-replicate, length-set, length-replicate}
 use Rattle.std.proofs.lemmas.Bool.{cases_eq, both_ways}
-use Rattle.std.specs.List.{AllByRecursion as All}
+use Rattle.std.specs.List.{AllByRecursion}
 use Rattle.tenths.specs.declared.links.Link.{Link}
 use Rattle.tenths.specs.Differences.{at, Under}
 use Rattle.tenths.specs.Relaxing.{Low, Rounds, Lowest, started}
@@ -60,7 +60,7 @@ module _ (spots : ℕ) (some : 0 < spots) where
             let u = p.zero in
             ne (ap (λ (m : ℕ). at after (m - 1)) size ∙ omega arith)
 
-        pub lowest_decided : at after (length after - 1) ≡ 32768 → (q : Bool) → Decides q (All (λ b. b < 65536) after) → Lowest (spots - 1) links after q
+        pub lowest_decided : at after (length after - 1) ≡ 32768 → (q : Bool) → Decides q (AllByRecursion (λ b. b < 65536) after) → Lowest (spots - 1) links after q
         lowest_decided zero true d =
             let all = d.0 refl in
             (record { zero = ap (λ (m : ℕ). at after (m - 1)) (sym size) ∙ zero; ranged = λ x h. All-get_or (λ b. b < 65536) after x 0 (omega arith) all; kept = end.0 }, end.1)

@@ -1,9 +1,9 @@
 -- Why a round settles one more spot: measured against any potential, a link can raise its head only where the head's gap is
 -- larger than the tail's, and afterwards it is still no smaller.
-use Rattle.std.proofs.Common.{◌≡◌, ℕ, zero, ◌+◌, ◌-◌, ◌<◌, ◌≤◌, min, Bool, true, false, ◌||◌, eqb, List, length, get_or, set, sym, refl, ap, ◌∙◌, subst, inl, inr, ⊎_elim, arith, below_more}
+use Rattle.std.proofs.Common.{◌≡◌, ℕ, ◌+◌, ◌-◌, ◌<◌, ◌≤◌, min, Bool, true, false, ◌||◌, eqb, List, length, get_or, set, sym, refl, ap, ◌∙◌, subst, inl, inr, ⊎_elim, arith, below_more}
 use Rattle.std.proofs.lemmas.List.{get_or-set_same, get_or-set_other, length-set}
 use Rattle.std.proofs.lemmas.Bool.{cases_eq, cases_Bool, both_ways, or_cases, or_parts, eqb-true}
-use Rattle.std.specs.List.{AllByRecursion as All}
+use Rattle.std.specs.List.{AllByRecursion}
 use Rattle.tenths.specs.declared.links.Link.{Link}
 use Rattle.tenths.specs.Differences.{at, Keeps, Fair, Potential}
 use Rattle.tenths.specs.Relaxing.{no_link, Settled, Settling}
@@ -24,7 +24,7 @@ module _ (ds : List ℕ) (h b : ℕ) (inside : h < length ds) where
   raised_grown up x =
       elim (cases_eq x h) [ inl e ↦ (let r = raised_here x e in let q : at ds x ≡ at ds h = ap (at ds) e in omega arith) | inr ne ↦ (let r = raised_other x ne in omega arith) ]
 
-module _ (n : ℕ) (links : List Link) (v : ℕ → ℕ) (p : Potential n links v) (fair : All (Fair (n + 1)) links) where
+module _ (n : ℕ) (links : List Link) (v : ℕ → ℕ) (p : Potential n links v) (fair : AllByRecursion (Fair (n + 1)) links) where
   module _ (done : ℕ → Bool) (m i : ℕ) (ds : List ℕ) (q : Settling n links v done m i ds) (h : i < length links) where
     pub settling_kept : Keeps (at ds) (get_or links i no_link) → Settling n links v done m (i + 1) ds
     settling_kept k =

@@ -3,7 +3,7 @@ use Rattle.std.proofs.Common.{◌≡◌, ℕ, ◌+◌, ◌-◌, ◌<◌, ◌≤�
 use Rattle.std.proofs.ByRecursion.{All-get_or, All-from_get_or, All-set}
 use Rattle.std.proofs.lemmas.List.{length-set}
 use Rattle.std.proofs.lemmas.Bool.{cases_Bool, cases_lt, both_ways}
-use Rattle.std.specs.List.{AllByRecursion as All}
+use Rattle.std.specs.List.{AllByRecursion}
 use Rattle.tenths.specs.declared.links.Link.{Link}
 use Rattle.tenths.specs.Differences.{at, Keeps, Fair, Potential, Under}
 use Rattle.tenths.specs.Relaxing.{no_link, Low, Relaxes, Settled, Settling, Sweep, Rounds}
@@ -25,12 +25,12 @@ module _ (links : List Link) (before : List ℕ) where
         settles = λ n v done m p q. q;
       }
 
-  module _ (ds after : List ℕ) (i : ℕ) (raised : Bool) (w : Sweep links before ds i raised) (h : i < length links) (fair : All (Fair (length before)) links) where
+  module _ (ds after : List ℕ) (i : ℕ) (raised : Bool) (w : Sweep links before ds i raised) (h : i < length links) (fair : AllByRecursion (Fair (length before)) links) where
     fair_i : Fair (length before) (get_or links i no_link)
     fair_i = All-get_or (Fair (length before)) links i no_link h fair
 
-    fair_in : (n : ℕ) → length ds ≡ n + 1 → All (Fair (n + 1)) links
-    fair_in n e = subst (λ (z : ℕ). All (Fair z) links) (sym w.size ∙ e) fair
+    fair_in : (n : ℕ) → length ds ≡ n + 1 → AllByRecursion (Fair (n + 1)) links
+    fair_in n e = subst (λ (z : ℕ). AllByRecursion (Fair z) links) (sym w.size ∙ e) fair
 
     sweep_kept : Keeps (at ds) (get_or links i no_link) → Sweep links before ds (i + 1) raised
     sweep_kept k =
@@ -89,9 +89,9 @@ module _ (n : ℕ) (links : List Link) (v : ℕ → ℕ) (p : Potential n links 
         some = omega arith;
       }
 
-  module _ (fair : All (Fair (n + 1)) links) where
+  module _ (fair : AllByRecursion (Fair (n + 1)) links) where
     -- with at most one spot missing every link is kept
-    all_kept : (done : ℕ → Bool) → Settled n links v done ds → missing done (n + 1) ≤ 1 → All (Keeps (at ds)) links
+    all_kept : (done : ℕ → Bool) → Settled n links v done ds → missing done (n + 1) ≤ 1 → AllByRecursion (Keeps (at ds)) links
     all_kept done s few = All-from_get_or (Keeps (at ds)) links no_link one
       where
         one : (k : ℕ) → k < length links → Keeps (at ds) (get_or links k no_link)
@@ -144,10 +144,10 @@ module _ (links : List Link) (before : List ℕ) (some : 0 < length before) wher
       record { low = low; size = refl; grown = λ x. omega arith; progress = λ v p. progress_none (length before - 1) links v p before (omega arith) under }
 
   module _ (ds after : List ℕ) (j : ℕ) (t : Turns links before ds j) where
-    pub turns_more : All (Fair (length before)) links → (r : Bool) → r ≡ true → Sweep links ds after (length links) r → Turns links before after (j + 1)
+    pub turns_more : AllByRecursion (Fair (length before)) links → (r : Bool) → r ≡ true → Sweep links ds after (length links) r → Turns links before after (j + 1)
     turns_more fair r e w =
         let one : length before ≡ length before - 1 + 1 = omega arith in
-        let fairs : All (Fair (length before - 1 + 1)) links = subst (λ (z : ℕ). All (Fair z) links) one fair in
+        let fairs : AllByRecursion (Fair (length before - 1 + 1)) links = subst (λ (z : ℕ). AllByRecursion (Fair z) links) one fair in
         let raised : Sweep links ds after (length links) true = subst (λ (z : Bool). Sweep links ds after (length links) z) e w in
         record {
           low = w.low;

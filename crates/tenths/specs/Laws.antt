@@ -7,7 +7,7 @@ use Rattle.std.proofs.lemmas.Bool.{and_parts, eqb-true}
 use Rattle.std.proofs.lemmas.Bool.Decides.{nat_tests}
 use Rattle.domain.specs.declared.predicate.Predicate.{Predicate}
 use Rattle.domain.specs.Meaning.{Lawful, Complementary, known}
-use Rattle.tenths.specs.Tenths.{tenths, in_range, spoken, places, turned}
+use Rattle.tenths.specs.Tenths.{tenths, in_range, spoken, places}
 use Rattle.tenths.specs.Forms.{known_parts, turned_says, turned_back, turned_places, alone_says}
 
 pub range_fits : (x : ℤ) → in_range x ≡ true → FitsSigned w32 x

@@ -1,6 +1,6 @@
 -- Relaxation of difference constraints: lower bounds are raised link by link, in rounds.
 use Rattle.std.specs.Prelude.{◌≡◌, ℕ, ◌+◌, ◌-◌, ◌<◌, ◌≤◌, min, Bool, true, false, List, length, get_or, replicate, slice_index_or, slice_set}
-use Rattle.std.specs.List.{AllByRecursion as All}
+use Rattle.std.specs.List.{AllByRecursion}
 use Rattle.tenths.specs.declared.links.Link.{Link}
 use Rattle.tenths.specs.Differences.{at, Keeps, Potential, Under}
 
@@ -10,7 +10,7 @@ no_link = record { tail = 0; head = 0; weight = 0 }
 
 -- bounds end at 65,536, which is above every value
 abbrev pub Low : List ℕ → Type 0
-Low ds = All (λ b. b ≤ 65536) ds
+Low ds = AllByRecursion (λ b. b ≤ 65536) ds
 
 -- where the bounds of so many spots start: 0 at each variable, and 32,768 at the last spot, which stands for the number 0
 abbrev pub started : ℕ → List ℕ
@@ -44,14 +44,14 @@ pub record Sweep (links : List Link) (before after : List ℕ) (i : ℕ) (raised
   -- nothing raised: nothing changed, and these links are kept
   pub calm : raised ≡ false → (after ≡ before) × ((k : ℕ) → k < i → Keeps (at before) (slice_index_or links k no_link))
   -- nothing is raised where every link is kept
-  pub quiet : All (Keeps (at before)) links → raised ≡ false
+  pub quiet : AllByRecursion (Keeps (at before)) links → raised ≡ false
   pub settles :
       (n : ℕ) (v : ℕ → ℕ) (done : ℕ → Bool) (m : ℕ)
       → Potential n links v → Settling n links v done m 0 before → Settling n links v done m i after
 
 -- what rounds over all links end in: every link kept by lower bounds, or no potential at all
 abbrev pub Rounds : ℕ → List Link → List ℕ → List ℕ → Bool → Type 0
-Rounds n links before after true = All (Keeps (at after)) links × Under links n after × ((x : ℕ) → at before x ≤ at after x)
+Rounds n links before after true = AllByRecursion (Keeps (at after)) links × Under links n after × ((x : ℕ) → at before x ≤ at after x)
 Rounds n links before after false = (v : ℕ → ℕ) → Potential n links v → ⊥
 
 -- the lowest potential of all, or none

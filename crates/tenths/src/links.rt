@@ -1,6 +1,6 @@
 // Rows as links: one kind of constraint, on the difference of two spots.
 ghost use Rattle.std.specs.Prelude.{◌≡◌, ℕ, ◌<◌, length, slice_index_or};
-ghost use Rattle.std.specs.List.{AllByRecursion as All};
+ghost use Rattle.std.specs.List.{AllByRecursion};
 ghost use Rattle.domain.proofs.Failing.{no_row};
 ghost use Rattle.tenths.specs.Relaxing.{no_link};
 ghost use Rattle.tenths.specs.Rows.{Placed, Stands};
@@ -56,7 +56,7 @@ fn link_of(row: Row, zero: usize) -> Link
 
 // Writes the link of each row.
 pub fn fill_links(rows: &[Row], zero: usize, links: &mut [Link])
-    requires placed { All (Placed zero) rows.now }
+    requires placed { AllByRecursion (Placed zero) rows.now }
     requires room { length links.old ≡ length rows.now }
     ensures { (k : ℕ) → k < length rows.now → Stands zero (slice_index_or rows.now k no_row) (slice_index_or links.new k no_link) }
 {

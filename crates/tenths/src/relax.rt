@@ -1,6 +1,6 @@
 // Lower bounds for the spots, raised link by link in rounds until every link is kept.
 ghost use Rattle.std.specs.Prelude.{◌≡◌, ◌-◌, ◌<◌, length, Decides};
-ghost use Rattle.std.specs.List.{AllByRecursion as All};
+ghost use Rattle.std.specs.List.{AllByRecursion};
 ghost use Rattle.tenths.specs.Differences.{Fair, Under};
 ghost use Rattle.tenths.specs.Relaxing.{Low, Relaxes, Sweep, Rounds, Lowest, started};
 
@@ -32,7 +32,7 @@ fn relax(bounds: &mut [u32], link: Link) -> bool
 // Relaxes every link once, in order, and tells whether one was not kept.
 fn round(bounds: &mut [u32], links: &[Link]) -> bool
     requires low { Low bounds.old }
-    requires fair { All (Fair (length bounds.old)) links.now }
+    requires fair { AllByRecursion (Fair (length bounds.old)) links.now }
     ensures { Sweep links.now bounds.old bounds.new (length links.now) result }
 {
     let mut raised = false;
@@ -48,7 +48,7 @@ fn round(bounds: &mut [u32], links: &[Link]) -> bool
 // none.
 fn settle(bounds: &mut [u32], links: &[Link]) -> bool
     requires low { Low bounds.old }
-    requires fair { All (Fair (length bounds.old)) links.now }
+    requires fair { AllByRecursion (Fair (length bounds.old)) links.now }
     requires some { 0 < length bounds.old }
     requires under { Under links.now (length bounds.old - 1) bounds.old }
     ensures { Rounds (length bounds.old - 1) links.now bounds.old bounds.new result }
@@ -63,7 +63,7 @@ fn settle(bounds: &mut [u32], links: &[Link]) -> bool
 
 // Whether every bound is below the ceiling.
 fn below_ceiling(bounds: &[u32]) -> bool
-    ensures { Decides result (All (λ b. b < 65536) bounds.now) }
+    ensures { Decides result (AllByRecursion (λ b. b < 65536) bounds.now) }
 {
     for bound in bounds {
         if *bound >= CEILING {
@@ -85,7 +85,7 @@ fn start(bounds: &mut [u32])
 
 // The lowest potential of the links, or false where there is none.
 pub fn lowest(bounds: &mut [u32], links: &[Link]) -> bool
-    requires fair { All (Fair (length bounds.old)) links.now }
+    requires fair { AllByRecursion (Fair (length bounds.old)) links.now }
     requires some { 0 < length bounds.old }
     ensures { Lowest (length bounds.old - 1) links.now bounds.new result }
 {

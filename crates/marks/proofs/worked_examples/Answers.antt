@@ -1,9 +1,8 @@
-use Rattle.std.proofs.Common.{◌≡◌, ℕ, zero, suc, ◌<◌, Bool, true, false, not, ◌&&◌, eqb, leb, List, [], ◌∷◌, length, get_or, ℤ, pos, sym, refl, ap, ◌∙◌, arith}
+use Rattle.std.proofs.Common.{◌≡◌, ℕ, ◌<◌, false, leb, [], ◌∷◌, get_or, ℤ, pos, refl, ap, arith}
 use Rattle.std.proofs.lemmas.Bool.{and_from, and_right, le-leb, eq-eqb, both_ways, not_from_true}
 use Rattle.domain.specs.Meaning.{tested}
-use Rattle.domain.specs.Solving.{Chosen}
 use Rattle.marks.specs.Marks.{marks, has, in_range, nat}
-use Rattle.marks.specs.Examples.{pred, row}
+use Rattle.marks.specs.Examples.{pred}
 use Rattle.marks.proofs.Sets.{has_all, none_in_zero}
 use Rattle.marks.proofs.worked_examples.Goals as goal
 

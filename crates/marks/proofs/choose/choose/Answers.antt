@@ -1,4 +1,4 @@
-use Rattle.std.proofs.Common.{length, refl, arith}
+use Rattle.std.proofs.Common.{length, refl}
 use Rattle.std.proofs.lemmas.List.{get_or-replicate}
 use Rattle.marks.proofs.Choosing.{allowed_equal, allowed_unequal, front_listed, none_allowed, some_allowed}
 use Rattle.marks.proofs.choose.choose.Goals as goal

@@ -1,6 +1,6 @@
 use Rattle.std.proofs.Common.{sym, subst, arith}
 use Rattle.marks.specs.Joins.{Joined}
-use Rattle.marks.proofs.Joining.{joined_none, joined_skip, joined_more}
+use Rattle.marks.proofs.Joining.{joined_skip, joined_more}
 use Rattle.marks.proofs.join.join.Goals as goal
 use Rattle.marks.proofs.join.join.Goals.{then-row-eq3, else-row-eq3}
 

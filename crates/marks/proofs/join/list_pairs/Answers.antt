@@ -1,4 +1,4 @@
-use Rattle.std.proofs.Common.{sym, subst, arith}
+use Rattle.std.proofs.Common.{arith}
 use Rattle.marks.proofs.Pairing.{paired_skip, paired_more, paired_as}
 use Rattle.marks.proofs.join.list_pairs.Goals as goal
 use Rattle.marks.proofs.join.list_pairs.Goals.{then-row-eq4+else-left-right, else-row-eq4}

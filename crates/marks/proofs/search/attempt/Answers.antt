@@ -1,4 +1,4 @@
-use Rattle.std.proofs.Common.{sym, refl, ◌∙◌, arith}
+use Rattle.std.proofs.Common.{sym, refl, arith}
 use Rattle.marks.proofs.Searching.{given_or_needless, absent_needless, twin_needless}
 use Rattle.marks.proofs.search.attempt.Goals as goal
 

@@ -1,4 +1,4 @@
-use Rattle.std.proofs.Common.{◌≡◌, ◌<◌, length, get_or, pos, ap, ◌∙◌, arith, w32, below_more}
+use Rattle.std.proofs.Common.{◌<◌, length, get_or, pos, ◌∙◌, arith, w32, below_more}
 use Rattle.std.proofs.lemmas.List.{get_or-set_same, get_or-set_other, drop-set-lt}
 use Rattle.std.proofs.lemmas.Int.{to_z_pos}
 use Rattle.marks.proofs.solve.write_values.Goals as goal

@@ -1,6 +1,6 @@
 use Rattle.std.proofs.Common.{◌≡◌, ℕ, true, false, length, take, pos, sym, refl, ◌∙◌, subst, arith, rules}
 use Rattle.std.proofs.lemmas.List.{get_or-take, length-take-le}
-use Rattle.std.specs.List.{AllByRecursion as All}
+use Rattle.std.specs.List.{AllByRecursion}
 use Rattle.tenths.specs.Differences.{Fair}
 use Rattle.tenths.specs.Relaxing.{Lowest}
 use Rattle.tenths.proofs.Choosing.{all_placed, all_fair, choice_potential, lowest_choice, chosen, at_count}
@@ -13,7 +13,7 @@ pub lowest-requires : goal.lowest-requires
 lowest-requires c =
     let size : length c.fill_links.new.links ≡ length c.args.rows.now = search rules in
     record {
-      fair = subst (λ (z : ℕ). All (Fair z) c.fill_links.new.links) (sym c.requires.spot)
+      fair = subst (λ (z : ℕ). AllByRecursion (Fair z) c.fill_links.new.links) (sym c.requires.spot)
           (all_fair c.args.kinds.now c.args.rows.now (length c.args.values.now) c.requires.accepted c.fill_links.new.links size c.fill_links.ensures);
       some = omega (arith, c.requires.spot);
     }

@@ -2,7 +2,7 @@ use Rattle.std.proofs.Common.{ℕ, ◌<◌, false, List, refl, subst, arith}
 use Rattle.std.proofs.ByRecursion.{All-get_or, All-more}
 use Rattle.std.proofs.lemmas.List.{take_all}
 use Rattle.std.proofs.lemmas.Bool.{both_ways}
-use Rattle.std.specs.List.{AllByRecursion as All}
+use Rattle.std.specs.List.{AllByRecursion}
 use Rattle.tenths.proofs.relax.below_ceiling.Goals as goal
 
 pub returns-then-bound-ge-CEILING : goal.returns-then-bound-ge-CEILING
@@ -14,4 +14,4 @@ loop-bound-preserved c = All-more (λ b. b < 65536) c.args.bounds.now c.loop-bou
 
 pub returns : goal.returns
 returns c =
-    (λ _. subst (λ (z : List ℕ). All (λ b. b < 65536) z) (take_all c.loop-bound.bound-index c.args.bounds.now (omega arith)) c.loop-bound.invariant, λ _. refl)
+    (λ _. subst (λ (z : List ℕ). AllByRecursion (λ b. b < 65536) z) (take_all c.loop-bound.bound-index c.args.bounds.now (omega arith)) c.loop-bound.invariant, λ _. refl)

@@ -1,5 +1,5 @@
 use Rattle.std.proofs.Common.{ℕ, length, sym, subst, arith, rules}
-use Rattle.std.specs.List.{AllByRecursion as All}
+use Rattle.std.specs.List.{AllByRecursion}
 use Rattle.tenths.specs.Differences.{Fair}
 use Rattle.tenths.proofs.Lowest.{ready_size, ready_low, ready_under, none_lowest, zero_raised, lowest_decided}
 use Rattle.tenths.proofs.relax.lowest.Goals as goal
@@ -10,7 +10,7 @@ settle-requires c =
     let size = ready_size spots c.requires.some c.args.links.now c.start.new.bounds c.start.ensures in
     record {
       low = ready_low spots c.requires.some c.args.links.now c.start.new.bounds c.start.ensures;
-      fair = subst (λ (z : ℕ). All (Fair z) c.args.links.now) (sym size) c.requires.fair;
+      fair = subst (λ (z : ℕ). AllByRecursion (Fair z) c.args.links.now) (sym size) c.requires.fair;
       some = omega (arith, size, c.requires.some);
       under = ready_under spots c.requires.some c.args.links.now c.start.new.bounds c.start.ensures;
     }
