@@ -1,5 +1,5 @@
 -- A solved list has a value for each reading.
-use Rattle.std.proofs.Common.{◌≡◌, ℕ, ◌≤◌, List, ◌++◌, length, take, drop, ℤ, Ok, sym, ap, ◌∙◌, subst, arith}
+use Rattle.std.proofs.Common.{◌≡◌, ℕ, List, ◌++◌, length, take, drop, ℤ, Ok, sym, ap, ◌∙◌, subst, arith}
 use Rattle.std.proofs.lemmas.List.{take_all, take_at}
 use Rattle.domain.specs.declared.predicate.Outcome.{Outcome}
 use Rattle.domain.specs.declared.predicate.Outcome.TheVariants.{Solved}

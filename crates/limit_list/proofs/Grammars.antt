@@ -1,5 +1,5 @@
 -- Every spelling is read back.
-use Rattle.std.proofs.Common.{◌≡◌, ℕ, ◌+◌, ◌<◌, ◌≤◌, Bool, true, false, cond, not, ◌&&◌, ◌||◌, eqb, List, [], ◌∷◌, ◌++◌, length, get_or, drop, ℤ, pos, neg_ℤ, Some, None, Ok, Err, sym, refl, ap, ◌∙◌, subst, arith}
+use Rattle.std.proofs.Common.{◌≡◌, ℕ, true, false, cond, not, eqb, List, [], ◌∷◌, ◌++◌, length, drop, ℤ, pos, neg_ℤ, Some, Ok, Err, sym, refl, ap, ◌∙◌, subst, arith}
 use Rattle.std.proofs.lemmas.Bool.{cond-true, cond-false, and_from, or_from, ne_eqb, false≢true}
 use Rattle.limit_list.specs.declared.bytes.Class.{Class}
 use Rattle.limit_list.specs.declared.bytes.Class.TheVariants.{Blank, Word, Digit}
@@ -8,7 +8,7 @@ use Rattle.limit_list.specs.declared.fault.Expected.TheVariants as expected
 use Rattle.limit_list.specs.declared.fault.Stop.{Stop}
 use Rattle.limit_list.specs.declared.limit.Operator.{Operator}
 use Rattle.limit_list.specs.declared.limit.Operator.TheVariants.{AtMost, Below, AtLeast, Above}
-use Rattle.limit_list.specs.Bytes.{in_class, letter, digit, run, past_run}
+use Rattle.limit_list.specs.Bytes.{in_class, letter, run, past_run}
 use Rattle.limit_list.specs.Grammar.{Only, Name, symbol, Numeral, plain, minus, Bound, Spells, silent, one, two}
 use Rattle.limit_list.specs.Limits.{allowed}
 use Rattle.limit_list.specs.Spelling.{Term, reading, difference, Said, nothing, limit, head, ended, value, number_of, unsigned, numbered, bared, operator_of, width, after_operator, from_end, from_number, from_operator, from_second, from_first, from_start, reads}

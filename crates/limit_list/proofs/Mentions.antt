@@ -1,11 +1,10 @@
 -- What mentioning a name leaves.
-use Rattle.std.proofs.Common.{◌≡◌, ℕ, ◌+◌, ◌<◌, ◌≤◌, Bool, true, false, cond, ltb, List, [], ◌∷◌, ◌++◌, map, length, replicate, ℤ, vec_items, sym, refl, ap, ◌∙◌, subst, ⊎_elim, arith, Bor}
-use lib.ListN.{length-map}
+use Rattle.std.proofs.Common.{◌≡◌, ℕ, ◌<◌, ◌≤◌, true, List, [], ◌∷◌, ◌++◌, map, length, replicate, ℤ, vec_items, sym, refl, ap, ◌∙◌, subst, ⊎_elim, arith, Bor}
 use Rattle.std.proofs.lemmas.List.{map_push, length_push, replicate_more}
 use Rattle.std.proofs.lemmas.Bool.{cond-true, cond-false, lt-ltb, le-ltb, cases_lt}
 use Rattle.limit_list.specs.declared.list.LimitList.{LimitList}
 use Rattle.limit_list.specs.declared.limit.Operator.{Operator}
-use Rattle.limit_list.specs.Adding.{Even, Mentioned, Rowed, Added}
+use Rattle.limit_list.specs.Adding.{Mentioned, Rowed, Added}
 use Rattle.limit_list.specs.Listing.{place, mention, names_in, row_at}
 use Rattle.limit_list.specs.Spelling.{difference, limit}
 use Rattle.limit_list.proofs.Places.{place_le, place_push, place_push_other}

@@ -1,35 +1,12 @@
 -- The place of a name among names, and how it stays when names are added.
-use Rattle.std.proofs.Common.{◌≡◌, ℕ, ◌+◌, ◌<◌, ◌≤◌, Bool, true, false, cond, List, [], ◌∷◌, ◌++◌, map, length, get_or, drop, Decides, sym, refl, ap, ◌∙◌, arith, Bor, rules}
-use Rattle.std.proofs.lemmas.Slice.Eq.{bytes_eq-Decides, slice_eq-Decides}
-use Rattle.std.proofs.lemmas.List.{at_drop_more, at_drop_all}
-use Rattle.std.proofs.lemmas.Bool.{cond-true, cond-false}
-use Rattle.std.specs.Cmp.Lexicographic.{Matches}
+use Rattle.std.proofs.Common.{◌≡◌, ℕ, ◌+◌, ◌<◌, ◌≤◌, Bool, true, false, cond, List, [], ◌∷◌, ◌++◌, map, length, refl, ap, arith, Bor}
+use Rattle.std.proofs.lemmas.Slice.Eq.{bytes_eq-Decides}
+use Rattle.std.proofs.lemmas.Bool.{cond-true}
 use Rattle.std.specs.Str.{bytes_eq}
-use Rattle.limit_list.specs.Listing.{place, mention}
-use Rattle.std.proofs.lemmas.Bool.Decides.{Decides-eqb}
-
--- a default for reads of a list of names
-abbrev pub no_name : Bor (List ℕ)
-no_name = record { ref_ptr = (0, 0); now = [] }
+use Rattle.limit_list.specs.Listing.{place}
 
 abbrev pub spelt : List (Bor (List ℕ)) → List (List ℕ)
 spelt ns = map (λ x. x.now) ns
-
-same_tested : (xs ys : List ℕ) (r : Bool) → Decides r (xs ≡ ys) → bytes_eq xs ys ≡ r
-same_tested xs ys r h = search (rules, bytes_eq-Decides)
-
-pub matches_tested : (xs ys : List ℕ) (r : Bool) → Matches (λ (a b : ℕ) (t : Bool). Decides t (a ≡ b)) xs ys r → bytes_eq xs ys ≡ r
-matches_tested xs ys r h = same_tested xs ys r (slice_eq-Decides Decides-eqb xs ys r h)
-
-module _ (ns : List (Bor (List ℕ))) (x : List ℕ) (i : ℕ) where
-  pub place_here : i < length ns → bytes_eq (get_or ns i no_name).now x ≡ true → place (spelt (drop i ns)) x ≡ 0
-  place_here h e = at_drop_more (λ t. place (spelt t) x) ns i no_name h ∙ cond-true _ _ _ e
-
-  pub place_later : i < length ns → bytes_eq (get_or ns i no_name).now x ≡ false → place (spelt (drop i ns)) x ≡ 1 + place (spelt (drop (i + 1) ns)) x
-  place_later h e = at_drop_more (λ t. place (spelt t) x) ns i no_name h ∙ cond-false _ _ _ e
-
-  pub place_none : length ns ≤ i → place (spelt (drop i ns)) x ≡ 0
-  place_none h = at_drop_all (λ t. place (spelt t) x) ns i h
 
 same_self : (x : List ℕ) → bytes_eq x x ≡ true
 same_self x = (bytes_eq-Decides x x).1 refl

@@ -1,5 +1,5 @@
 -- What is read is spelt.
-use Rattle.std.proofs.Common.{◌≡◌, ℕ, ◌+◌, ◌<◌, ◌≤◌, Bool, true, false, cond, not, ◌&&◌, ◌||◌, eqb, List, [], ◌∷◌, ◌++◌, length, get_or, drop, ℤ, pos, neg_ℤ, IfOk, Some, None, Ok, Err, Option, Result, sym, refl, ap, ◌∙◌, subst, ⊎_elim, arith}
+use Rattle.std.proofs.Common.{◌≡◌, ℕ, Bool, true, false, cond, not, eqb, List, [], ◌∷◌, ◌++◌, length, drop, ℤ, pos, neg_ℤ, IfOk, Some, None, Ok, Option, Result, sym, refl, ap, ◌∙◌, subst, ⊎_elim, arith}
 use Rattle.std.proofs.lemmas.Result.{IfOk-weaker, IfOk-at_ok}
 use Rattle.std.proofs.lemmas.Bool.{cond-true, cond-false, and_parts, or_left, eqb-true, cases_Bool, false≢true}
 use Rattle.limit_list.specs.declared.bytes.Class.{Class}
@@ -9,7 +9,7 @@ use Rattle.limit_list.specs.declared.fault.Expected.TheVariants as expected
 use Rattle.limit_list.specs.declared.fault.Stop.{Stop}
 use Rattle.limit_list.specs.declared.limit.Operator.{Operator}
 use Rattle.limit_list.specs.declared.limit.Operator.TheVariants.{AtMost, Below, AtLeast, Above}
-use Rattle.limit_list.specs.Bytes.{in_class, letter, digit, run, past_run}
+use Rattle.limit_list.specs.Bytes.{in_class, letter, run, past_run}
 use Rattle.limit_list.specs.Grammar.{Only, Name, symbol, Numeral, plain, minus, Bound, Spells, silent, one, two}
 use Rattle.limit_list.specs.Limits.{allowed}
 use Rattle.limit_list.specs.Spelling.{Term, reading, difference, Said, nothing, limit, stops, head, ended, value, number_of, unsigned, numbered, bared, operator_of, width, after_operator, from_end, from_number, from_operator, from_second, from_first, from_start, reads}

@@ -10,7 +10,7 @@ use Rattle.limit_list.specs.declared.limit.Line.{Line}
 use Rattle.limit_list.specs.declared.limit.Operator.{Operator}
 use Rattle.limit_list.specs.Bytes.{in_class, letter, run, past_run}
 use Rattle.limit_list.specs.Limits.{allowed}
-use Rattle.limit_list.specs.Spelling.{Term, reading, difference, number_of, Said, Fitting, told, stops, head, ended, unsigned, numbered, operator_of, width, bared, after_operator, from_end, from_number, from_operator, from_second, from_first, from_start, reads}
+use Rattle.limit_list.specs.Spelling.{Term, reading, difference, number_of, Said, Fitting, told, head, ended, unsigned, numbered, operator_of, width, bared, after_operator, from_end, from_number, from_operator, from_second, from_first, from_start, reads}
 
 -- what is read fits, and where the reading stops, at most n bytes are left
 abbrev pub Good : Result Said Stop → ℕ → Type 0

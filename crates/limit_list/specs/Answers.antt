@@ -1,5 +1,5 @@
 -- What the answer to a list promises.
-use Rattle.std.specs.Prelude.{◌≡◌, ℕ, List, length, ℤ, Some, None, Ok, Err, vec_items, Result}
+use Rattle.std.specs.Prelude.{◌≡◌, List, length, ℤ, Some, vec_items}
 use Rattle.domain.specs.Meaning.{Meaning}
 use Rattle.domain.specs.Solving.{Chosen, refusal_of}
 use Rattle.limit_list.specs.declared.answering.Verdict.{Verdict}

@@ -1,5 +1,5 @@
 -- Classes of bytes, and the run of a class at the front of a text.
-use Rattle.std.specs.Prelude.{ℕ, Bool, true, false, cond, not, ◌&&◌, ◌||◌, List, [], ◌∷◌, ◌==◌, nat_le}
+use Rattle.std.specs.Prelude.{ℕ, Bool, cond, not, ◌&&◌, ◌||◌, List, [], ◌∷◌, ◌==◌, nat_le}
 use Rattle.limit_list.specs.declared.bytes.Class.{Class}
 use Rattle.limit_list.specs.declared.bytes.Class.TheVariants.{Blank, Word, Digit, Inline}
 

@@ -1,6 +1,6 @@
 -- How a technician spells what a line says.
-use Rattle.std.specs.Prelude.{◌≡◌, ℕ, Bool, true, false, List, [], ◌∷◌, ◌++◌, ℤ, pos, neg_ℤ, Ok, Err, Result}
-use Rattle.std.specs.List.{AllByRecursion as All}
+use Rattle.std.specs.Prelude.{◌≡◌, ℕ, true, List, [], ◌∷◌, ◌++◌, ℤ, pos, neg_ℤ, Ok, Err, Result}
+use Rattle.std.specs.List.{AllByRecursion}
 use Rattle.limit_list.specs.declared.bytes.Class.{Class}
 use Rattle.limit_list.specs.declared.bytes.Class.TheVariants.{Blank, Word, Digit}
 use Rattle.limit_list.specs.declared.fault.Fault.{Fault}
@@ -13,7 +13,7 @@ use Rattle.limit_list.specs.Spelling.{Said, nothing, limit, reading, difference,
 
 -- a text of bytes of one class only
 abbrev pub Only : Class → List ℕ → Type 0
-Only c s = All (λ b. in_class c b ≡ true) s
+Only c s = AllByRecursion (λ b. in_class c b ≡ true) s
 
 -- a name: a letter, and then letters, digits and `_`
 pub record Name (x : List ℕ) : Type 0 where

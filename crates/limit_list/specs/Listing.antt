@@ -1,5 +1,5 @@
 -- What a whole text lists: the lines, the readings by first mention, and a row for each limit.
-use Rattle.std.specs.Prelude.{◌≡◌, ℕ, ◌+◌, ◌<◌, ◌≤◌, Bool, true, false, cond, not, List, [], ◌∷◌, ◌++◌, map, length, replicate, ℤ, Ok, Err, vec_items, fold, Result, ◌==◌, nat_lt}
+use Rattle.std.specs.Prelude.{◌≡◌, ℕ, ◌+◌, Bool, true, false, cond, List, [], ◌∷◌, ◌++◌, map, length, replicate, ℤ, Ok, Err, vec_items, fold, Result, ◌==◌, nat_lt}
 use Rattle.std.specs.Str.{bytes_eq}
 use Rattle.domain.specs.declared.predicate.Row.{Row}
 use Rattle.limit_list.specs.declared.fault.Fault.{Fault}

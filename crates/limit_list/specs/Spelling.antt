@@ -1,5 +1,5 @@
 -- What a line says, read from its front.
-use Rattle.std.specs.Prelude.{◌≡◌, ℕ, ◌+◌, ◌-◌, ◌*◌, Bool, true, false, cond, not, ◌&&◌, ◌||◌, List, [], ◌∷◌, length, drop, ℤ, pos, neg_ℤ, Some, None, Ok, Err, fold, Option, Result, ◌==◌, slice_index}
+use Rattle.std.specs.Prelude.{◌≡◌, ℕ, ◌+◌, ◌-◌, ◌*◌, Bool, true, cond, not, ◌&&◌, ◌||◌, List, length, drop, ℤ, pos, neg_ℤ, Some, None, Ok, Err, fold, Option, Result, ◌==◌, slice_index}
 use Rattle.limit_list.specs.declared.bytes.Class.TheVariants.{Blank, Word, Digit}
 use Rattle.limit_list.specs.declared.fault.Expected.{Expected}
 use Rattle.limit_list.specs.declared.fault.Expected.TheVariants as expected
@@ -13,7 +13,7 @@ use Rattle.limit_list.specs.declared.limit.Limit.{Limit}
 use Rattle.limit_list.specs.declared.limit.Line.{Line}
 use Rattle.limit_list.specs.declared.limit.Line.TheVariants.{Nothing, Limits}
 use Rattle.limit_list.specs.Bytes.{letter, run, past_run}
-use Rattle.limit_list.specs.Limits.{when, allowed}
+use Rattle.limit_list.specs.Limits.{allowed}
 
 -- what a limit is about, by the names of its readings: one reading, or the first less the second
 pub data Term : Type 0 where

@@ -19,8 +19,8 @@ pub fn answer<D: Domain>(
     domain: &mut D,
     list: &LimitList<'_>,
 ) -> Result<Verdict, AllocError>
-    ensures answered { IfOk result (Answers (meaning domain.old) list.now) }
-    ensures meant { meaning domain.new ≡ meaning domain.old }
+    ensures answered { IfOk result (Answers (D.meaning domain.old) list.now) }
+    ensures meant { D.meaning domain.new ≡ D.meaning domain.old }
 {
     let mut values = vec![in heap; 0i32; list.kinds.len()]?;
     match domain.solve(

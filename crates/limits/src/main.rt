@@ -18,7 +18,7 @@ fn solve(rt: &HostRuntime, heap: Global, text: &[u8]) -> anyhow::Result<()> {
     let verdict = answer(heap, &mut domain, &list)?;
     let words = verdict_text(heap, &list, &verdict)?;
     if let Verdict::Refused(_) = verdict {
-        return Err(words.into());
+        return Err(anyhow!(words));
     }
     rt.print(words)?;
     Ok(())

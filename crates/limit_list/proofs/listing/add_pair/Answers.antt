@@ -1,7 +1,7 @@
-use Rattle.std.proofs.lemmas.Result.{IfOk-weaker, IfOk-at_ok}
+use Rattle.std.proofs.lemmas.Result.{IfOk-weaker}
 use Rattle.std.proofs.lemmas.Int.{to_z-of_z}
 use Rattle.std.proofs.Common.{true, w32, SFits, rules}
-use Rattle.limit_list.specs.Adding.{Mentioned, Rowed, Added}
+use Rattle.limit_list.specs.Adding.{Rowed, Added}
 use Rattle.limit_list.specs.Spelling.{difference, limit}
 use Rattle.limit_list.proofs.Mentions.{added_pair}
 use Rattle.limit_list.proofs.listing.add_pair.Goals as goal

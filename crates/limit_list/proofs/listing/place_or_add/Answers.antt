@@ -1,4 +1,4 @@
-use Rattle.std.proofs.Common.{◌≡◌, is_ok, vec_items, refl, ap, ◌∙◌, arith}
+use Rattle.std.proofs.Common.{is_ok, vec_items, refl, ap, ◌∙◌, arith}
 use lib.ListN.{length-map}
 use Rattle.std.proofs.ResultArms.{chosen}
 use Rattle.limit_list.specs.Listing.{place}

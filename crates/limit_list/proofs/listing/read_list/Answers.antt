@@ -1,4 +1,3 @@
-use Rattle.std.proofs.Common.{rules}
 use Rattle.limit_list.proofs.Listings.{none_yet, all_read, refused_line, taken_line, less_left}
 use Rattle.limit_list.proofs.listing.read_list.Goals as goal
 

@@ -1,4 +1,4 @@
-use Rattle.std.proofs.Common.{◌≡◌, Ok, Err, sym, ap, ◌∙◌, arith, rules}
+use Rattle.std.proofs.Common.{◌≡◌, Ok, Err, sym, ap, ◌∙◌, rules}
 use Rattle.limit_list.specs.Spelling.{from_start, reads, said}
 use Rattle.limit_list.proofs.Grammars.{not_spelt}
 use Rattle.limit_list.proofs.Spellings.{read_spelt}
