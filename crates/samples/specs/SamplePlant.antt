@@ -1,11 +1,11 @@
 -- A plant of two things, p and q. Link feature 1 leads from p to q; q has -90 at value feature 128; name 1 is {q}; all else is
 -- empty. Every value feature has the one kind of Tenths.
-use Rattle.std.specs.Prelude.{◌≡◌, ℕ, Bool, true, false, cond, ◌&&◌, List, [], ◌∷◌, replicate, ℤ, pos, negsuc, Some, None, filter, Option, ◌==◌}
+use Rattle.std.specs.Prelude.{◌≡◌, ℕ, true, false, cond, ◌&&◌, List, [], ◌∷◌, replicate, negsuc, Some, None, filter, ◌==◌}
 use Rattle.std.specs.List.{range_with_len}
 use Rattle.domain.specs.declared.predicate.Predicate.{Predicate}
 use Rattle.tenths.specs.Tenths.{tenths}
 use Rattle.concept.specs.Concepts.{Concept, formed}
-use Rattle.concept.specs.Concepts.Concept.{atom, neg, conj, disj, some, all, has, lacks, holds, meets, parts}
+use Rattle.concept.specs.Concepts.Concept.{atom, neg, conj, disj, some, all, lacks, holds, meets, parts}
 use Rattle.concept.specs.Plants.{Plant, Proper, inside}
 use Rattle.concept.specs.Normal.{normal, nodes}
 
