@@ -2,7 +2,7 @@
 use Rattle.std.proofs.Common.{◌≡◌, ℕ, ◌/◌, ◌%◌, ◌<◌, ◌≤◌, true, ◌||◌, eqb, ltb, ◌⊎◌, List, [], ◌∷◌, length, get_or, ℤ, pos, sym, ap, ◌∙◌, inl, inr, ⊎_elim, arith}
 use Rattle.std.proofs.ByRecursion.{All-get_or, All-weaker}
 use Rattle.std.proofs.lemmas.Bool.{and_parts, and_from, or_cases, or_left, or_right, ltb-true, eqb-true, eq-eqb, cases_eq}
-use Rattle.std.specs.List.{AllByRecursion as All}
+use Rattle.std.specs.List.{AllByRecursion}
 use Rattle.domain.specs.declared.predicate.Predicate.{Predicate}
 use Rattle.domain.specs.declared.predicate.Row.{Row}
 use Rattle.domain.specs.Meaning.{Meaning, Lawful, known, tested}
@@ -14,7 +14,7 @@ use Rattle.pair.proofs.Having.{side_is}
 use Rattle.pair.specs.Laws.{half_lawful, pair_lawful}
 use Rattle.pair.proofs.Sifting.{length_sifted, all_sifted, all_unsifted}
 
-all_both : {A : Type 0} (P Q : A → Type 0) (xs : List A) → All P xs → All Q xs → All (λ x. P x × Q x) xs
+all_both : {A : Type 0} (P Q : A → Type 0) (xs : List A) → AllByRecursion P xs → AllByRecursion Q xs → AllByRecursion (λ x. P x × Q x) xs
 all_both P Q [] ps qs = tt
 all_both P Q (x ∷ xs) ps qs = ((ps.0, qs.0), all_both P Q xs ps.1 qs.1)
 
@@ -26,7 +26,7 @@ module _ (l r : Meaning) (left : Lawful l) (right : Lawful r) where
   -- the values serve the variables and the rows of a side
   pub record Served (kinds : List ℕ) (rows : List Row) (s : ℕ) (vs : List ℤ) : Type 0 where
     pub of_kind : (i : ℕ) → i < length kinds → on s (get_or kinds i 0) ≡ true → (paired l r).within (get_or kinds i 0) (get_or vs i (pos 0)) ≡ true
-    pub kept : All (λ row. row_on s row ≡ true → Kept (paired l r) vs row) rows
+    pub kept : AllByRecursion (λ row. row_on s row ≡ true → Kept (paired l r) vs row) rows
 
   -- a known kind of the pair is its side's
   known_side : (s k : ℕ) → on s k ≡ true → (paired l r).knows k ≡ true → side l r k ≡ half l r s

@@ -3,7 +3,7 @@ use Rattle.std.proofs.Common.{◌≡◌, ℕ, zero, suc, ◌+◌, ◌<◌, ◌�
 use Rattle.std.proofs.lemmas.List.{append-nil, map-append, length-append, take-append-drop, drop_more, get_or_at, get_or-drop, take_all, take_more_set, length_push}
 use Rattle.std.proofs.lemmas.List.Elements.{filter-append, filter_more}
 use Rattle.std.proofs.lemmas.Bool.{cond-false, false≢true}
-use Rattle.std.specs.List.{AllByRecursion as All}
+use Rattle.std.specs.List.{AllByRecursion}
 use Rattle.pair.proofs.Rests.{same_after_set}
 
 suc_lt : {xs : ℕ} (i : ℕ) → i < xs → suc i < suc xs
@@ -43,20 +43,20 @@ module _ {A B : Type 0} (f : A → B) (p : A → Bool) where
       go true t h = rw t (omega arith)
       go false t h = rw t (omega arith)
 
-  pub all_sifted : (P : A → Type 0) (Q : B → Type 0) → ((x : A) → p x ≡ true → P x → Q (f x)) → (xs : List A) → All P xs → All Q (sifted xs)
+  pub all_sifted : (P : A → Type 0) (Q : B → Type 0) → ((x : A) → p x ≡ true → P x → Q (f x)) → (xs : List A) → AllByRecursion P xs → AllByRecursion Q (sifted xs)
   all_sifted P Q turn [] h = tt
   all_sifted P Q turn (x ∷ xs) h = go (p x) refl (all_sifted P Q turn xs h.1)
     where
-      go : (b : Bool) → p x ≡ b → All Q (sifted xs) → All Q (sifted (x ∷ xs))
+      go : (b : Bool) → p x ≡ b → AllByRecursion Q (sifted xs) → AllByRecursion Q (sifted (x ∷ xs))
       go true t more = rw t (turn x t h.0, more)
       go false t more = rw t more
 
-  pub all_unsifted : (Q : B → Type 0) → (xs : List A) → All Q (sifted xs) → All (λ x. p x ≡ true → Q (f x)) xs
+  pub all_unsifted : (Q : B → Type 0) → (xs : List A) → AllByRecursion Q (sifted xs) → AllByRecursion (λ x. p x ≡ true → Q (f x)) xs
   all_unsifted Q [] h = tt
   all_unsifted Q (x ∷ xs) h = go (p x) refl (all_unsifted Q xs)
     where
-      go : (b : Bool) → p x ≡ b → (All Q (sifted xs) → All (λ y. p y ≡ true → Q (f y)) xs) → All (λ y. p y ≡ true → Q (f y)) (x ∷ xs)
-      go true t more = let k : Q (f x) × All Q (sifted xs) = rw t at h in ((λ _. k.0), more k.1)
+      go : (b : Bool) → p x ≡ b → (AllByRecursion Q (sifted xs) → AllByRecursion (λ y. p y ≡ true → Q (f y)) xs) → AllByRecursion (λ y. p y ≡ true → Q (f y)) (x ∷ xs)
+      go true t more = let k : Q (f x) × AllByRecursion Q (sifted xs) = rw t at h in ((λ _. k.0), more k.1)
       go false t more = ((λ u. absurd (false≢true (sym t ∙ u))), more (rw t at h))
 
   -- each place of the result comes from a place that passes
