@@ -3,7 +3,7 @@ use Rattle.std.proofs.Common.{◌≡◌, ℕ, ◌+◌, ◌<◌, ◌≤◌, Bool,
 use Rattle.std.proofs.ByRecursion.{All-push}
 use Rattle.std.proofs.lemmas.List.{nil_from_length}
 use Rattle.std.proofs.lemmas.List.Sums.{fold_push}
-use Rattle.std.specs.List.{AllByRecursion as All}
+use Rattle.std.specs.List.{AllByRecursion}
 use Rattle.limit_list.specs.declared.bytes.Class.TheVariants.{Inline}
 use Rattle.limit_list.specs.declared.fault.Fault.{Fault}
 use Rattle.limit_list.specs.declared.list.LimitList.{LimitList}
@@ -56,11 +56,11 @@ module _ (ns ms : List (List ℕ)) (e : Extends ns ms) where
   known_kept (limit (reading x) o n) h = (e x h).1
   known_kept (limit (difference x y) o n) h = ((e x h.0).1, (e y h.1).1)
 
-  all_known_kept : (ss : List Said) → All (Known ns) ss → All (Known ms) ss
+  all_known_kept : (ss : List Said) → AllByRecursion (Known ns) ss → AllByRecursion (Known ms) ss
   all_known_kept [] h = tt
   all_known_kept (s ∷ ss) h = (known_kept s h.0, all_known_kept ss h.1)
 
-  rows_kept : (ss : List Said) → All (Known ns) ss → rows_of ms ss ≡ rows_of ns ss
+  rows_kept : (ss : List Said) → AllByRecursion (Known ns) ss → rows_of ms ss ≡ rows_of ns ss
   rows_kept [] h = refl
   rows_kept (nothing ∷ ss) h = rows_kept ss h.1
   rows_kept (limit (reading x) o n ∷ ss) h =
@@ -86,7 +86,7 @@ prefixed_more ss s (Err f) = refl
 pub record Sofar (text : List ℕ) (n : ℕ) (rest : List ℕ) (l : LimitList) : Type 0 where
   pub ss : List Said
   pub read : says_all 1 (lines text) ≡ prefixed ss (says_all n (lines rest))
-  pub known : All (Known (names_of ss)) ss
+  pub known : AllByRecursion (Known (names_of ss)) ss
   pub lists : Lists ss l
   pub few : n + length rest ≤ length text + 1
 
@@ -132,7 +132,7 @@ module _ {text : List ℕ} {n : ℕ} {rest : List ℕ} {l : LimitList} (old : So
       record {
         ss = ss ++ s ∷ [];
         read = next_line h ∙ ap (λ r. prefixed ss (before r (says_all (n + 1) (lines (drop 1 (past_run Inline rest)))))) e ∙ prefixed_more ss s (says_all (n + 1) (lines (drop 1 (past_run Inline rest))));
-        known = subst (λ k. All (Known k) (ss ++ s ∷ [])) (sym same) (All-push (Known ms) ss s (all_known_kept ns ms (extends_said ns s) ss old.known) (known_said ns s));
+        known = subst (λ k. AllByRecursion (Known k) (ss ++ s ∷ [])) (sym same) (All-push (Known ms) ss s (all_known_kept ns ms (extends_said ns s) ss old.known) (known_said ns s));
         lists = record {
           names = here ∙ sym same;
           kinds = add.kinds (old.lists.kinds ∙ ap (λ k. replicate (length k) 0) (sym old.lists.names)) ∙ ap (λ k. replicate (length k) 0) (here ∙ sym same);
