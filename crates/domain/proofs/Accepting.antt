@@ -1,25 +1,12 @@
 -- No refusal applies exactly when the lists are in order.
-use Rattle.std.proofs.Common.{◌≡◌, ℕ, ◌+◌, Bool, true, false, ◌||◌, ltb, List, [], ◌∷◌, length, Some, None, Option, refl, arith}
+use Rattle.std.proofs.Common.{◌≡◌, ℕ, Bool, true, false, ◌||◌, ltb, List, length, Some, None, Option, refl, arith}
 use Rattle.std.proofs.lemmas.Bool.{ltb-false, le-ltb, or_parts, or_from}
-use Rattle.std.specs.List.{AllByRecursion}
 use Rattle.domain.specs.declared.predicate.Row.{Row}
 use Rattle.domain.specs.declared.refusal.Refusal.{Refusal}
 use Rattle.domain.specs.declared.refusal.Refusal.TheVariants.{TooMany, UnknownKind, UnfitRow, ShortBuffer}
 use Rattle.domain.specs.Meaning.{Meaning}
+use Rattle.domain.proofs.Failing.{all_pass, none_fails}
 use Rattle.domain.specs.Solving.{first_failing, else_at, else_if, fit, refusal_of, Accepted}
-
-module _ {A : Type 0} (test : A → Bool) where
-  all_pass : (xs : List A) (i : ℕ) → first_failing test i xs ≡ None → AllByRecursion (λ x. test x ≡ true) xs
-  all_pass [] i e = tt
-  all_pass (x ∷ xs) i e = go (test x) refl (λ h. all_pass xs (i + 1) h)
-    where
-      go : (b : Bool) → test x ≡ b → (first_failing test (i + 1) xs ≡ None → AllByRecursion (λ y. test y ≡ true) xs) → AllByRecursion (λ y. test y ≡ true) (x ∷ xs)
-      go true t more = (t, more (rw t at e))
-      go false t more = let z : ◌≡◌ {A = ℕ} 0 1 = cc (rw t at e) in absurd (omega arith)
-
-  none_fails : (xs : List A) (i : ℕ) → AllByRecursion (λ x. test x ≡ true) xs → first_failing test i xs ≡ None
-  none_fails [] i h = refl
-  none_fails (x ∷ xs) i h = rw h.0 (none_fails xs (i + 1) h.1)
 
 past_if : (b : Bool) (r : Refusal) (next : Option Refusal) → else_if b r next ≡ None → (b ≡ false) × (next ≡ None)
 past_if true r next e = let z : ◌≡◌ {A = ℕ} 0 1 = cc in absurd (omega arith)
@@ -34,15 +21,15 @@ module _ (m : Meaning) (kinds : List ℕ) (rows : List Row) (room : ℕ) where
   unfolding refusal_of
   accepted e =
       let p = past_if (ltb 256 (length rows) || ltb 512 (length kinds)) TooMany _ e in
-      let q = past_at (first_failing m.knows 0 kinds) UnknownKind _ p.1 in
-      let r = past_at (first_failing (fit m kinds) 0 rows) UnfitRow _ q.1 in
+      let q = past_at (first_failing m.knows kinds) UnknownKind _ p.1 in
+      let r = past_at (first_failing (fit m kinds) rows) UnfitRow _ q.1 in
       let s = past_if (ltb room (length kinds)) ShortBuffer None r.1 in
       let few = or_parts _ _ p.0 in
       record {
         few_rows = ltb-false _ _ few.0;
         few_variables = ltb-false _ _ few.1;
-        known_kinds = all_pass m.knows kinds 0 q.0;
-        fit_rows = all_pass (fit m kinds) rows 0 r.0;
+        known_kinds = all_pass m.knows kinds q.0;
+        fit_rows = all_pass (fit m kinds) rows r.0;
         enough_room = ltb-false _ _ s.0;
       }
 
@@ -51,7 +38,7 @@ module _ (m : Meaning) (kinds : List ℕ) (rows : List Row) (room : ℕ) where
   not_refused a =
       rw (
         or_from _ _ (le-ltb 256 (length rows) a.few_rows) (le-ltb 512 (length kinds) a.few_variables),
-        none_fails m.knows kinds 0 a.known_kinds,
-        none_fails (fit m kinds) rows 0 a.fit_rows,
+        none_fails m.knows kinds a.known_kinds,
+        none_fails (fit m kinds) rows a.fit_rows,
         le-ltb room (length kinds) a.enough_room,
       )

@@ -1,6 +1,6 @@
 -- Choices of values for a list of variables, and what `solve` promises.
-use Rattle.std.specs.Prelude.{◌≡◌, ℕ, ◌+◌, ◌<◌, ◌≤◌, Bool, true, false, cond, ◌&&◌, ◌||◌, List, [], ◌∷◌, length, take, drop, ℤ, pos, Some, None, Ok, Err, Option, Result, ◌==◌, nat_lt, slice_index, slice_index_or}
-use Rattle.std.specs.List.{AllByRecursion}
+use Rattle.std.specs.Prelude.{◌≡◌, ℕ, ◌<◌, ◌≤◌, Bool, true, false, not, ◌&&◌, ◌||◌, List, length, take, drop, ℤ, pos, Some, None, Ok, Err, Option, Result, ◌==◌, nat_lt, slice_index, slice_index_or}
+use Rattle.std.specs.List.{All, AllPass, position}
 use Rattle.domain.specs.declared.predicate.Row.{Row}
 use Rattle.domain.specs.declared.predicate.Outcome.{Outcome}
 use Rattle.domain.specs.declared.predicate.Outcome.TheVariants.{Unsolvable, Solved}
@@ -16,7 +16,7 @@ Kept m vs r = tested m r.predicate (slice_index_or vs r.first (pos 0)) (slice_in
 pub record Chosen (m : Meaning) (kinds : List ℕ) (rows : List Row) (vs : List ℤ) : Type 0 where
   pub one_each : length vs ≡ length kinds
   pub of_kind : (i : ℕ) → i < length kinds → m.within (slice_index kinds i) (slice_index_or vs i (pos 0)) ≡ true
-  pub kept : AllByRecursion (Kept m vs) rows
+  pub kept : All (Kept m vs) rows
 
 -- the place names a variable of this kind
 abbrev pub names : List ℕ → ℕ → ℕ → Bool
@@ -27,10 +27,9 @@ abbrev pub fit : Meaning → List ℕ → Row → Bool
 fit m kinds r =
     known m r.predicate && (names kinds r.predicate.kind r.first && (m.arity r.predicate == 1 || names kinds r.predicate.kind r.second))
 
--- the place of the first that fails a test, counted from i
-abbrev pub first_failing : {A : Type 0} → (A → Bool) → ℕ → List A → Option ℕ
-first_failing test i [] = None
-first_failing test i (x ∷ xs) = cond (test x) (first_failing test (i + 1) xs) (Some i)
+-- the place of the first that fails a test
+abbrev pub first_failing : {A : Type 0} → (A → Bool) → List A → Option ℕ
+first_failing test xs = position (λ x. not (test x)) xs
 
 abbrev pub else_at : Option ℕ → (ℕ → Refusal) → Option Refusal → Option Refusal
 else_at None refuse next = next
@@ -44,16 +43,16 @@ else_if false refusal next = next
 unfoldable pub refusal_of : Meaning → List ℕ → List Row → ℕ → Option Refusal
 refusal_of m kinds rows room =
     else_if (nat_lt 256 (length rows) || nat_lt 512 (length kinds)) TooMany
-    (else_at (first_failing m.knows 0 kinds) UnknownKind
-    (else_at (first_failing (fit m kinds) 0 rows) UnfitRow
+    (else_at (first_failing m.knows kinds) UnknownKind
+    (else_at (first_failing (fit m kinds) rows) UnfitRow
     (else_if (nat_lt room (length kinds)) ShortBuffer None)))
 
 -- what stands once no refusal applies
 pub record Accepted (m : Meaning) (kinds : List ℕ) (rows : List Row) (room : ℕ) : Type 0 where
   pub few_rows : length rows ≤ 256
   pub few_variables : length kinds ≤ 512
-  pub known_kinds : AllByRecursion (λ k. m.knows k ≡ true) kinds
-  pub fit_rows : AllByRecursion (λ r. fit m kinds r ≡ true) rows
+  pub known_kinds : AllPass m.knows kinds
+  pub fit_rows : AllPass (fit m kinds) rows
   pub enough_room : length kinds ≤ room
 
 -- what `solve` promises of its answer and of the buffer, before and after

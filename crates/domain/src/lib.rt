@@ -5,6 +5,7 @@ ghost use Rattle.std.specs.Prelude.{◌≡◌, ℕ, Ok, Err, OnErr};
 ghost use Rattle.domain.specs.Meaning.{Meaning, Lawful, tested, sample_of, complement_of};
 ghost use Rattle.domain.specs.Solving.{Solves};
 
+pub mod forms;
 pub mod lists;
 pub mod predicate;
 pub mod refusal;

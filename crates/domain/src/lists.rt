@@ -11,7 +11,8 @@ pub const MOST_ROWS: usize = 256;
 pub const MOST_VARIABLES: usize = 512;
 
 // The words of a domain: its kinds, and its predicates by their arity. A domain has them apart from `Domain`, so that its
-// own `solve` can hand them to `check_lists`.
+// own `solve` can hand them to `check_lists`: the check covers no call, from a method of `Domain`, of a function that is
+// generic over `Domain`.
 pub trait Words {
     ghost spoken: { Self → Meaning };
 
@@ -54,25 +55,15 @@ fn too_many(rows: usize, variables: usize) -> bool
 }
 
 fn first_unknown_kind<W: Words>(words: &W, kinds: &[u32]) -> Option<usize>
-    ensures { result ≡ first_failing (W.spoken words.now).knows 0 kinds.now }
+    ensures { result ≡ first_failing (W.spoken words.now).knows kinds.now }
 {
-    for (i, kind) in kinds.iter().enumerate() {
-        if !words.has_kind(*kind) {
-            return Some(i);
-        }
-    }
-    None
+    kinds.iter().position(|kind| !words.has_kind(*kind))
 }
 
 fn first_unfit_row<W: Words>(words: &W, kinds: &[u32], rows: &[Row]) -> Option<usize>
-    ensures { result ≡ first_failing (fit (W.spoken words.now) kinds.now) 0 rows.now }
+    ensures { result ≡ first_failing (fit (W.spoken words.now) kinds.now) rows.now }
 {
-    for (i, row) in rows.iter().enumerate() {
-        if !row_fits(words, kinds, *row) {
-            return Some(i);
-        }
-    }
-    None
+    rows.iter().position(|row| !row_fits(words, kinds, *row))
 }
 
 fn row_fits<W: Words>(words: &W, kinds: &[u32], row: Row) -> bool
