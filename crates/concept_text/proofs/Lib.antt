@@ -1,2 +1,2 @@
-pub mod Numerals
-pub mod Runs
+pub mod Lines
+pub mod Nodes

@@ -1,2 +1,5 @@
-pub mod Bytes
-pub mod Numerals
+pub mod Adding
+pub mod Nodes
+pub mod Placed
+pub mod Reading
+pub mod Words

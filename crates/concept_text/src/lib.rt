@@ -1,13 +1,12 @@
 // Concept tables and plants as a technician writes them down: reading them, and writing normal forms.
 #![tactic(auto)]
 
-mod bytes;
 pub mod fault;
-mod keys;
+mod form;
 mod line;
 mod node;
-mod numeral;
 mod read;
+mod reader;
 mod sheet;
 pub mod words;
 

@@ -1,196 +1,176 @@
 // What one line adds to a sheet.
-ghost use Rattle.std.specs.Prelude.{◌≡◌, [], ◌∷◌, ◌++◌, OnOk};
+ghost use Rattle.text.specs.Bytes.{past_run};
+ghost use Rattle.concept_text.specs.Adding.{Extends, AddsNode, Adds, Few};
+ghost use Rattle.concept_text.specs.Reading.{number, past, past_sign};
+ghost use Rattle.std.specs.Prelude.{◌≡◌, ◌≤◌, [], ◌∷◌, ◌++◌, length, IfOk, OnOk, OnErr};
 
-use crate::bytes::{Class, bare, cut, first};
-use crate::fault::{Expected, Stop};
-use crate::keys::key;
-use crate::node::{node, sign};
-use crate::numeral::{constant, number};
+use crate::fault::{Expected, Halt, Stop};
+use crate::reader::Reader;
 use crate::sheet::Sheet;
-use finite_plant::{Link, MOST_THINGS, Named, Pair, Reading};
+use finite_plant::{FinitePlant, Link, MOST_THINGS, Named, Pair, Reading};
 use std::alloc::AllocError;
+use text::Class;
 
-// The words that lines of a plant begin with, by their keys.
-const PLANT: u64 = 0x70_6c61_6e74;
-
-const NAMED: u64 = 0x6e_616d_6564;
-
-const LINK: u64 = 0x6c69_6e6b;
-
-const VALUE: u64 = 0x76_616c_7565;
-
-const ROLE: u64 = 0x726f_6c65;
-
-// Why a line adds nothing.
-#[derive(Clone, Copy)]
-pub enum Halt {
-    Memory,
-    Misread(Stop),
-}
-
-impl From<Stop> for Halt {
-    fn from(stop: Stop) -> Halt {
-        Halt::Misread(stop)
-    }
-}
-
-impl From<AllocError> for Halt {
-    fn from(_e: AllocError) -> Halt {
-        Halt::Memory
-    }
-}
-
-// What an entry of a plant is about.
-#[derive(Clone, Copy)]
-enum Topic {
-    Name,
-    Link,
-    Value,
-    Role,
-}
-
-impl Topic {
-    // The lowest and the highest number that the topic may have.
-    fn range(self) -> (u32, u32) {
-        match self {
-            Topic::Name => (1, 255),
-            Topic::Link => (1, 127),
-            Topic::Value => (128, 255),
-            Topic::Role => (256, 511),
+impl<'a> Reader<'a> {
+    // A thing of a plant of so many things.
+    fn thing(&mut self, count: u32) -> Result<u32, Stop>
+        ensures { length self.new.rest.now ≤ length self.old.rest.now }
+    {
+        match count.checked_sub(1) {
+            None => Err(self.stop(Expected::Plant)),
+            Some(last) => self.number(0, last),
         }
+    }
+
+    // Two things with a `>` between them.
+    fn arrow(&mut self, count: u32) -> Result<(u32, u32), Stop>
+        ensures { length self.new.rest.now ≤ length self.old.rest.now }
+    {
+        let from = self.thing(count)?;
+        self.sign(b'>')?;
+        Ok((from, self.thing(count)?))
+    }
+
+    // A number and a colon.
+    fn heading(&mut self, low: u32, high: u32) -> Result<u32, Stop>
+        ensures value { IfOk result (λ n. n ≡ number self.old.rest.now) }
+        ensures rest { OnOk result (self.new.rest.now ≡ past_sign (past Class.Digit self.old.rest.now)) }
+    {
+        let number = self.number(low, high)?;
+        self.sign(b':')?;
+        Ok(number)
     }
 }
 
 // Adds an item at the end of a list.
 fn put<T: Drop>(list: &mut Vec<T>, item: T) -> Result<(), AllocError>
-    ensures { OnOk result (list.new.items ≡ list.old.items ++ (item ∷ [])) }
+    ensures ok { OnOk result (list.new.items ≡ list.old.items ++ (item ∷ [])) }
+    ensures err { OnErr result (list.new.items ≡ list.old.items) }
 {
     list.push(item)?;
     Ok(())
 }
 
-// A thing of the plant.
-fn thing<'a>(sheet: &Sheet, s: &'a [u8]) -> Result<(u32, &'a [u8]), Stop> {
-    match sheet.plant.count {
-        0 => Err(Stop {
-            expected: Expected::Plant,
-            left: s.len(),
-        }),
-        count => number(s, 0, count - 1),
+// Adds entries up to the end of the line, separated by commas.
+fn entries<T: Drop, F: Fn(&mut Reader<'_>) -> Result<T, Stop>>(
+    line: &mut Reader<'_>,
+    list: &mut Vec<T>,
+    entry: F,
+) -> Result<(), Halt>
+    requires callable { F.IsAlwaysCallable entry }
+    requires forward { (r : _) (o : _) (r' : _) → F.post entry r o r' → length r'.now.rest.now ≤ length r.now.rest.now }
+    ensures { Extends list.old.items list.new.items }
+{
+    if line.is_done() {
+        return Ok(());
     }
+    put(list, entry(line)?)?;
+    while line.takes(b',') {
+        put(list, entry(line)?)?;
+    }
+    Ok(())
 }
 
-fn name_entry<'a>(sheet: &mut Sheet, name: u32, s: &'a [u8]) -> Result<&'a [u8], Halt> {
-    let (thing, s) = thing(sheet, s)?;
-    put(&mut sheet.plant.names, Named { name, thing })?;
-    Ok(s)
+// Adds the names of things.
+fn names(plant: &mut FinitePlant, line: &mut Reader<'_>) -> Result<(), Halt>
+    ensures { plant.new.count ≡ plant.old.count }
+{
+    let name = line.heading(1, 255)?;
+    let count = plant.count;
+    entries(line, &mut plant.names, |line| {
+        let thing = line.thing(count)?;
+        Ok(Named { name, thing })
+    })
 }
 
-// Two things with a `>` between them.
-fn arrow<'a>(sheet: &Sheet, s: &'a [u8]) -> Result<(u32, u32, &'a [u8]), Stop> {
-    let (from, s) = thing(sheet, s)?;
-    let (to, s) = thing(sheet, sign(s, b'>')?)?;
-    Ok((from, to, s))
+// Adds the links of a feature.
+fn links(plant: &mut FinitePlant, line: &mut Reader<'_>) -> Result<(), Halt>
+    ensures { plant.new.count ≡ plant.old.count }
+{
+    let feature = line.heading(1, 127)?;
+    let count = plant.count;
+    entries(line, &mut plant.links, |line| {
+        let (from, to) = line.arrow(count)?;
+        Ok(Link { feature, from, to })
+    })
 }
 
-fn link_entry<'a>(sheet: &mut Sheet, feature: u32, s: &'a [u8]) -> Result<&'a [u8], Halt> {
-    let (from, to, s) = arrow(sheet, s)?;
-    put(&mut sheet.plant.links, Link { feature, from, to })?;
-    Ok(s)
-}
-
-fn role_entry<'a>(sheet: &mut Sheet, role: u32, s: &'a [u8]) -> Result<&'a [u8], Halt> {
-    let (from, to, s) = arrow(sheet, s)?;
-    put(&mut sheet.plant.pairs, Pair { role, from, to })?;
-    Ok(s)
-}
-
-fn value_entry<'a>(sheet: &mut Sheet, feature: u32, s: &'a [u8]) -> Result<&'a [u8], Halt> {
-    let (thing, s) = thing(sheet, s)?;
-    let (value, s) = constant(sign(s, b'=')?, -32_768, 32_767)?;
-    put(
-        &mut sheet.plant.readings,
-        Reading {
+// Adds the values of a feature.
+fn readings(plant: &mut FinitePlant, line: &mut Reader<'_>) -> Result<(), Halt>
+    ensures { plant.new.count ≡ plant.old.count }
+{
+    let feature = line.heading(128, 255)?;
+    let count = plant.count;
+    entries(line, &mut plant.readings, |line| {
+        let thing = line.thing(count)?;
+        line.sign(b'=')?;
+        let value = line.constant(-32_768, 32_767)?;
+        Ok(Reading {
             feature,
             thing,
             value,
-        },
-    )?;
-    Ok(s)
+        })
+    })
 }
 
-// Adds one entry, and says what follows it.
-fn entry<'a>(sheet: &mut Sheet, topic: Topic, number: u32, s: &'a [u8]) -> Result<&'a [u8], Halt> {
-    match topic {
-        Topic::Name => name_entry(sheet, number, s),
-        Topic::Link => link_entry(sheet, number, s),
-        Topic::Value => value_entry(sheet, number, s),
-        Topic::Role => role_entry(sheet, number, s),
-    }
-}
-
-// Adds entries up to the end of the line, separated by commas.
-fn entries<'a>(sheet: &mut Sheet, topic: Topic, s: &'a [u8]) -> Result<&'a [u8], Halt> {
-    let (low, high) = topic.range();
-    let (number, s) = number(s, low, high)?;
-    let mut s = sign(s, b':')?;
-    for _ in 0..s.len() {
-        s = entry(sheet, topic, number, s)?;
-        if first(s) != b',' {
-            return Ok(s);
-        }
-        s = sign(s, b',')?;
-    }
-    Ok(s)
+// Adds the pairs of a role.
+fn pairs(plant: &mut FinitePlant, line: &mut Reader<'_>) -> Result<(), Halt>
+    ensures { plant.new.count ≡ plant.old.count }
+{
+    let role = line.heading(256, 511)?;
+    let count = plant.count;
+    entries(line, &mut plant.pairs, |line| {
+        let (from, to) = line.arrow(count)?;
+        Ok(Pair { role, from, to })
+    })
 }
 
 // Adds the node of a line that begins with its place.
-fn place<'a>(sheet: &mut Sheet, s: &'a [u8]) -> Result<&'a [u8], Halt> {
-    let next = sheet.table.len().min(4_294_967_295) as u32;
-    let (_, s) = number(s, next, next)?;
-    let (node, s) = node(sign(s, b':')?)?;
-    put(&mut sheet.table, node)?;
-    Ok(s)
-}
-
-// Takes down how many things the plant has.
-fn things<'a>(sheet: &mut Sheet, s: &'a [u8]) -> Result<&'a [u8], Halt> {
-    let (count, s) = number(s, 1, MOST_THINGS as u32)?;
-    sheet.plant.count = count;
-    Ok(s)
+fn place(sheet: &mut Sheet, line: &mut Reader<'_>) -> Result<(), Halt>
+    ensures adds { OnOk result (AddsNode sheet.old.table.items line.old.rest.now sheet.new.table.items) }
+    ensures plant { sheet.new.plant.count ≡ sheet.old.plant.count }
+{
+    let next = u32::try_from(sheet.table.len()).unwrap_or(u32::MAX);
+    line.heading(next, next)?;
+    put(&mut sheet.table, line.node()?)?;
+    Ok(())
 }
 
 // Adds what a line says, where it says something.
-fn start<'a>(sheet: &mut Sheet, s: &'a [u8]) -> Result<&'a [u8], Halt> {
-    if s.len() == 0 {
-        return Ok(s);
+fn start(sheet: &mut Sheet, line: &mut Reader<'_>) -> Result<(), Halt>
+    ensures adds { OnOk result (Adds sheet.old line.old.rest.now sheet.new) }
+    ensures few { Few sheet.old → Few sheet.new }
+{
+    if line.is_done() {
+        return Ok(());
     }
-    if Class::Digit.has(first(s)) {
-        return place(sheet, s);
+    if line.is_at(Class::Digit) {
+        return place(sheet, line);
     }
-    let (word, rest) = cut(Class::Word, s);
-    let rest = bare(rest);
-    match key(word) {
-        PLANT => things(sheet, rest),
-        NAMED => entries(sheet, Topic::Name, rest),
-        LINK => entries(sheet, Topic::Link, rest),
-        VALUE => entries(sheet, Topic::Value, rest),
-        ROLE => entries(sheet, Topic::Role, rest),
-        _ => Err(Halt::Misread(Stop {
-            expected: Expected::Start,
-            left: s.len(),
-        })),
+    let stop = line.stop(Expected::Start);
+    let plant = &mut sheet.plant;
+    match line.take(Class::Letter) {
+        b"plant" => {
+            plant.count = line.number(1, MOST_THINGS as u32)?;
+            Ok(())
+        }
+        b"named" => names(plant, line),
+        b"link" => links(plant, line),
+        b"value" => readings(plant, line),
+        b"role" => pairs(plant, line),
+        _ => Err(Halt::Misread(stop)),
     }
 }
 
 // Adds what a line without its comment says.
-pub fn add_line(sheet: &mut Sheet, line: &[u8]) -> Result<(), Halt> {
-    let rest = start(sheet, bare(line))?;
-    if rest.len() == 0 {
+pub fn add_line(sheet: &mut Sheet, line: &[u8]) -> Result<(), Halt>
+    ensures adds { OnOk result (Adds sheet.old (past_run Class.Blank line.now) sheet.new) }
+    ensures few { Few sheet.old → Few sheet.new }
+{
+    let mut line = Reader::new(line);
+    start(sheet, &mut line)?;
+    if line.is_done() {
         return Ok(());
     }
-    Err(Halt::Misread(Stop {
-        expected: Expected::EndOfLine,
-        left: rest.len(),
-    }))
+    Err(Halt::Misread(line.stop(Expected::EndOfLine)))
 }

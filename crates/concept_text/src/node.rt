@@ -1,11 +1,15 @@
 // The node that a line says.
-use crate::bytes::{Class, after, bare, cut, first};
-use crate::fault::{Expected, Stop};
-use crate::keys::key;
-use crate::numeral::{constant, number};
-use concept::node::{Chain, Node};
+ghost use Rattle.std.specs.Prelude.{◌≡◌, cond, IfOk, OnOk, Some, None};
+ghost use Rattle.text.specs.Bytes.{run};
+ghost use Rattle.concept_text.specs.Reading.{number, past, past_sign};
+ghost use Rattle.concept_text.specs.Nodes.{step, past_step, chain, past_chain, is_paired, past_second_chain, comparison, past_comparison, with_holds, node_of, Says};
+ghost use Rattle.concept_text.specs.Words.{form_of};
 
-const MOST: u32 = 4_294_967_295;
+use crate::fault::{Expected, Stop};
+use crate::form::Form;
+use crate::reader::Reader;
+use concept::node::{Chain, Node};
+use text::Class;
 
 const NO_CHAIN: Chain = Chain {
     first: 0,
@@ -25,203 +29,148 @@ const BLANK: Node = Node {
     constant: 0,
 };
 
-// The words of the forms, by their keys.
-const NAME: u64 = 0x6e61_6d65;
-
-const NOT: u64 = 0x6e_6f74;
-
-const AND: u64 = 0x61_6e64;
-
-const OR: u64 = 0x6f72;
-
-const SOME: u64 = 0x736f_6d65;
-
-const ALL: u64 = 0x61_6c6c;
-
-const HAS: u64 = 0x68_6173;
-
-const LACKS: u64 = 0x6c_6163_6b73;
-
-const HOLDS: u64 = 0x68_6f6c_6473;
-
-const MEETS: u64 = 0x6d_6565_7473;
-
-const PARTS: u64 = 0x70_6172_7473;
-
-const FORM: u64 = 0x666f_726d;
-
-// Any number of 32 bits.
-fn any(s: &[u8]) -> Result<(u32, &[u8]), Stop> {
-    number(s, 0, MOST)
-}
-
-// This byte, and what follows it and its blanks.
-pub fn sign(s: &[u8], byte: u8) -> Result<&[u8], Stop> {
-    if first(s) == byte {
-        return Ok(bare(after(s, 1)));
+impl<'a> Reader<'a> {
+    // Any number of 32 bits.
+    fn any(&mut self) -> Result<u32, Stop>
+        ensures value { IfOk result (λ x. x ≡ number self.old.rest.now) }
+        ensures rest { OnOk result (self.new.rest.now ≡ past Class.Digit self.old.rest.now) }
+    {
+        self.number(0, u32::MAX)
     }
-    Err(Stop {
-        expected: Expected::Sign(byte),
-        left: s.len(),
-    })
-}
 
-// The number at the front; 0 where none is written.
-fn step(s: &[u8]) -> Result<(u32, &[u8]), Stop> {
-    if Class::Digit.has(first(s)) {
-        any(s)
-    } else {
-        Ok((0, s))
+    // The number at the front; 0 where none is written.
+    fn step(&mut self) -> Result<u32, Stop>
+        ensures value { IfOk result (λ x. x ≡ step self.old.rest.now) }
+        ensures rest { OnOk result (self.new.rest.now ≡ past_step self.old.rest.now) }
+    {
+        if self.is_at(Class::Digit) {
+            self.any()
+        } else {
+            Ok(0)
+        }
     }
-}
 
-fn chain(s: &[u8]) -> Result<(Chain, &[u8]), Stop> {
-    let (first, s) = step(s)?;
-    let (second, s) = step(s)?;
-    let (third, s) = step(s)?;
-    Ok((
-        Chain {
-            first,
-            second,
-            third,
-        },
-        s,
-    ))
-}
-
-// A second chain after a bar, if there is a bar.
-fn second_chain(s: &[u8]) -> Result<(bool, Chain, &[u8]), Stop> {
-    if first(s) != b'|' {
-        return Ok((false, NO_CHAIN, s));
+    fn chain(&mut self) -> Result<Chain, Stop>
+        ensures value { IfOk result (λ x. x ≡ chain self.old.rest.now) }
+        ensures rest { OnOk result (self.new.rest.now ≡ past_chain self.old.rest.now) }
+    {
+        Ok(Chain {
+            first: self.step()?,
+            second: self.step()?,
+            third: self.step()?,
+        })
     }
-    let (v, s) = chain(bare(after(s, 1)))?;
-    Ok((true, v, s))
-}
 
-fn two_chains(form: u32, s: &[u8]) -> Result<(Node, &[u8]), Stop> {
-    let (u, s) = chain(s)?;
-    let s = sign(s, b'|')?;
-    let (v, s) = chain(s)?;
-    Ok((
-        Node {
-            form,
+    // The chain after a bar.
+    fn barred_chain(&mut self) -> Result<Chain, Stop>
+        ensures value { IfOk result (λ x. x ≡ chain (past_sign self.old.rest.now)) }
+        ensures rest { OnOk result (self.new.rest.now ≡ past_chain (past_sign self.old.rest.now)) }
+    {
+        self.sign(b'|')?;
+        self.chain()
+    }
+
+    // A second chain after a bar, if there is a bar.
+    fn second_chain(&mut self) -> Result<Option<Chain>, Stop>
+        ensures value { IfOk result (λ x. x ≡ cond (is_paired self.old.rest.now) (Some (chain (past_sign self.old.rest.now))) None) }
+        ensures rest { OnOk result (self.new.rest.now ≡ past_second_chain self.old.rest.now) }
+    {
+        if self.takes(b'|') {
+            Ok(Some(self.chain()?))
+        } else {
+            Ok(None)
+        }
+    }
+
+    // The form of a comparison: `<=` or `>`, or the word `form` with the number of a form. `<=` and `>` are the forms 1 and 2 of
+    // one value, and 3 and 4 of the difference of two.
+    fn comparison(&mut self, paired: bool) -> Result<u32, Stop>
+        ensures value { IfOk result (λ x. x ≡ comparison paired self.old.rest.now) }
+        ensures rest { OnOk result (self.new.rest.now ≡ past_comparison self.old.rest.now) }
+    {
+        let base = if paired { 2 } else { 0 };
+        if self.takes(b'>') {
+            return Ok(base + 2);
+        }
+        if self.takes_byte(b'<') {
+            self.sign(b'=')?;
+            return Ok(base + 1);
+        }
+        let stop = self.stop(Expected::Comparison);
+        match self.take(Class::Letter) {
+            b"form" => self.any(),
+            _ => Err(stop),
+        }
+    }
+
+    fn holds(&mut self, blank: Node) -> Result<Node, Stop>
+        ensures { IfOk result (λ x. x ≡ with_holds blank self.old.rest.now) }
+    {
+        let u = self.chain()?;
+        let v = self.second_chain()?;
+        Ok(Node {
             u,
-            v,
+            v: v.unwrap_or(NO_CHAIN),
+            predicate: self.comparison(v.is_some())?,
+            constant: self.constant(i32::MIN, i32::MAX)?,
+            ..blank
+        })
+    }
+
+    // The form of a node, by its word.
+    fn form(&mut self) -> Result<Form, Stop>
+        ensures value { IfOk result (λ x. form_of (run Class.Letter self.old.rest.now) ≡ Some x) }
+        ensures rest { self.new.rest.now ≡ past Class.Letter self.old.rest.now }
+    {
+        let stop = self.stop(Expected::Form);
+        Form::of(self.take(Class::Letter)).ok_or(stop)
+    }
+
+    // The node of this form, from the fields that the form uses.
+    fn fields(&mut self, form: Form) -> Result<Node, Stop>
+        ensures { IfOk result (λ x. x ≡ node_of form self.old.rest.now) }
+    {
+        let blank = Node {
+            form: form as u32,
             ..BLANK
-        },
-        s,
-    ))
-}
-
-// The form of a comparison and what follows it: `<=` or `>`, or the word `form` with the number of a form. `<=` and `>` are the
-// forms 1 and 2 of one value, and 3 and 4 of the difference of two.
-fn comparison(paired: bool, s: &[u8]) -> Result<(u32, &[u8]), Stop> {
-    let base = if paired { 2 } else { 0 };
-    if first(s) == b'>' {
-        return Ok((base + 2, bare(after(s, 1))));
+        };
+        match form {
+            Form::Name => Ok(Node {
+                name: self.any()?,
+                ..blank
+            }),
+            Form::Not => Ok(Node {
+                left: self.any()?,
+                ..blank
+            }),
+            Form::And | Form::Or => Ok(Node {
+                left: self.any()?,
+                right: self.any()?,
+                ..blank
+            }),
+            Form::Some | Form::All => Ok(Node {
+                relation: self.any()?,
+                left: self.any()?,
+                ..blank
+            }),
+            Form::Has | Form::Lacks => Ok(Node {
+                relation: self.any()?,
+                ..blank
+            }),
+            Form::Holds => self.holds(blank),
+            Form::Meets | Form::Parts => Ok(Node {
+                u: self.chain()?,
+                v: self.barred_chain()?,
+                ..blank
+            }),
+        }
     }
-    if first(s) == b'<' {
-        return Ok((base + 1, sign(after(s, 1), b'=')?));
-    }
-    let (word, rest) = cut(Class::Word, s);
-    if key(word) == FORM {
-        return any(bare(rest));
-    }
-    Err(Stop {
-        expected: Expected::Comparison,
-        left: s.len(),
-    })
-}
 
-fn holds(s: &[u8]) -> Result<(Node, &[u8]), Stop> {
-    let (u, s) = chain(s)?;
-    let (paired, v, s) = second_chain(s)?;
-    let (predicate, s) = comparison(paired, s)?;
-    let (constant, s) = constant(s, -2_147_483_648, 2_147_483_647)?;
-    let node = Node {
-        form: 9,
-        u,
-        v,
-        predicate,
-        constant,
-        ..BLANK
-    };
-    Ok((node, s))
-}
-
-fn name(s: &[u8]) -> Result<(Node, &[u8]), Stop> {
-    let (name, s) = any(s)?;
-    let node = Node {
-        form: 1,
-        name,
-        ..BLANK
-    };
-    Ok((node, s))
-}
-
-fn not(s: &[u8]) -> Result<(Node, &[u8]), Stop> {
-    let (left, s) = any(s)?;
-    let node = Node {
-        form: 2,
-        left,
-        ..BLANK
-    };
-    Ok((node, s))
-}
-
-fn join(form: u32, s: &[u8]) -> Result<(Node, &[u8]), Stop> {
-    let (left, s) = any(s)?;
-    let (right, s) = any(s)?;
-    let node = Node {
-        form,
-        left,
-        right,
-        ..BLANK
-    };
-    Ok((node, s))
-}
-
-fn over(form: u32, s: &[u8]) -> Result<(Node, &[u8]), Stop> {
-    let (relation, s) = any(s)?;
-    let (left, s) = any(s)?;
-    let node = Node {
-        form,
-        relation,
-        left,
-        ..BLANK
-    };
-    Ok((node, s))
-}
-
-fn feature(form: u32, s: &[u8]) -> Result<(Node, &[u8]), Stop> {
-    let (relation, s) = any(s)?;
-    let node = Node {
-        form,
-        relation,
-        ..BLANK
-    };
-    Ok((node, s))
-}
-
-// What follows the place of a node: the word of its form, and the fields that the form uses.
-pub fn node(s: &[u8]) -> Result<(Node, &[u8]), Stop> {
-    let (word, rest) = cut(Class::Word, s);
-    let rest = bare(rest);
-    match key(word) {
-        NAME => name(rest),
-        NOT => not(rest),
-        AND => join(3, rest),
-        OR => join(4, rest),
-        SOME => over(5, rest),
-        ALL => over(6, rest),
-        HAS => feature(7, rest),
-        LACKS => feature(8, rest),
-        HOLDS => holds(rest),
-        MEETS => two_chains(10, rest),
-        PARTS => two_chains(11, rest),
-        _ => Err(Stop {
-            expected: Expected::Form,
-            left: s.len(),
-        }),
+    // What follows the place of a node: the word of its form, and the fields that the form uses.
+    pub fn node(&mut self) -> Result<Node, Stop>
+        ensures { IfOk result (Says self.old.rest.now) }
+    {
+        let form = self.form()?;
+        self.fields(form)
     }
 }

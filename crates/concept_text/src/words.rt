@@ -1,5 +1,5 @@
 // Faults and normal forms in words.
-use crate::fault::{Expected, Fault};
+use crate::fault::Expected;
 use concept::node::Chain;
 use concept::normal::Normal;
 use domain::Predicate;
@@ -14,24 +14,12 @@ impl fmt::Display for Expected {
                 "name, not, and, or, some, all, has, lacks, holds, meets or parts"
             ),
             Expected::Comparison => write!(f, "<=, > or form"),
-            Expected::Sign(byte) => {
-                let sign = *byte as char;
-                write!(f, "{sign}")
-            }
+            Expected::Sign(byte) => write!(f, "{}", *byte as char),
             Expected::Number(low, high) => write!(f, "a whole number from {low} to {high}"),
             Expected::Constant(low, high) => write!(f, "a whole number from {low} to {high}"),
             Expected::Plant => write!(f, "a line above that says how many things the plant has"),
             Expected::EndOfLine => write!(f, "the end of the line"),
         }
-    }
-}
-
-impl fmt::Display for Fault {
-    fn fmt<W: fmt::Write>(&self, f: &mut fmt::Formatter<W>) -> fmt::Result {
-        let line = self.line;
-        let column = self.column;
-        let expected = self.expected;
-        write!(f, "line {line}, column {column}: expected {expected}")
     }
 }
 
@@ -41,9 +29,11 @@ struct Steps(Chain);
 
 impl fmt::Display for Steps {
     fn fmt<W: fmt::Write>(&self, f: &mut fmt::Formatter<W>) -> fmt::Result {
-        let first = self.0.first;
-        let second = self.0.second;
-        let third = self.0.third;
+        let Chain {
+            first,
+            second,
+            third,
+        } = self.0;
         match (second, third) {
             (0, _) => write!(f, "{first}"),
             (_, 0) => write!(f, "{first} {second}"),
@@ -58,8 +48,7 @@ fn write_holds<W: fmt::Write>(
     v: Chain,
     f: &mut fmt::Formatter<W>,
 ) -> fmt::Result {
-    let constant = predicate.constant;
-    let form = predicate.form;
+    let Predicate { form, constant, .. } = predicate;
     let first = Steps(u);
     let second = Steps(v);
     match form {
@@ -87,16 +76,8 @@ impl fmt::Display for Written {
             Normal::Has(feature) => write!(f, "has {feature}"),
             Normal::Lacks(feature) => write!(f, "lacks {feature}"),
             Normal::Holds(predicate, u, v) => write_holds(predicate, u, v, f),
-            Normal::Meets(u, v) => {
-                let first = Steps(u);
-                let second = Steps(v);
-                write!(f, "meets {first} | {second}")
-            }
-            Normal::Parts(u, v) => {
-                let first = Steps(u);
-                let second = Steps(v);
-                write!(f, "parts {first} | {second}")
-            }
+            Normal::Meets(u, v) => write!(f, "meets {} | {}", Steps(u), Steps(v)),
+            Normal::Parts(u, v) => write!(f, "parts {} | {}", Steps(u), Steps(v)),
         }
     }
 }

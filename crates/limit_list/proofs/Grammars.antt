@@ -1,17 +1,20 @@
 -- Every spelling is read back.
 use Rattle.std.proofs.Common.{◌≡◌, ℕ, true, false, cond, not, eqb, List, [], ◌∷◌, ◌++◌, length, drop, ℤ, pos, neg_ℤ, Some, Ok, Err, sym, refl, ap, ◌∙◌, subst, arith}
+use Rattle.std.proofs.lemmas.List.Elements.{All-head, All-tail}
 use Rattle.std.proofs.lemmas.Bool.{cond-true, cond-false, and_from, or_from, ne_eqb, false≢true}
-use Rattle.limit_list.specs.declared.bytes.Class.{Class}
-use Rattle.limit_list.specs.declared.bytes.Class.TheVariants.{Blank, Word, Digit}
+use Rattle.text.specs.declared.bytes.Class.{Class}
+use Rattle.text.specs.declared.bytes.Class.TheVariants.{Blank, Word, Digit}
 use Rattle.limit_list.specs.declared.fault.Expected.{Expected}
 use Rattle.limit_list.specs.declared.fault.Expected.TheVariants as expected
-use Rattle.limit_list.specs.declared.fault.Stop.{Stop}
+use Rattle.text.specs.declared.fault.Stop.{Stop}
 use Rattle.limit_list.specs.declared.limit.Operator.{Operator}
 use Rattle.limit_list.specs.declared.limit.Operator.TheVariants.{AtMost, Below, AtLeast, Above}
-use Rattle.limit_list.specs.Bytes.{in_class, letter, run, past_run}
+use Rattle.text.specs.Bytes.{in_class, letter, run, past_run}
+use Rattle.text.specs.Numerals.{value}
+use Rattle.text.proofs.Runs.{run-cons, past_run-cons}
 use Rattle.limit_list.specs.Grammar.{Only, Name, symbol, Numeral, plain, minus, Bound, Spells, silent, one, two}
 use Rattle.limit_list.specs.Limits.{allowed}
-use Rattle.limit_list.specs.Spelling.{Term, reading, difference, Said, nothing, limit, head, ended, value, number_of, unsigned, numbered, bared, operator_of, width, after_operator, from_end, from_number, from_operator, from_second, from_first, from_start, reads}
+use Rattle.limit_list.specs.Spelling.{Term, reading, difference, Said, nothing, limit, head, ended, number_of, unsigned, numbered, bared, operator_of, width, after_operator, from_end, from_number, from_operator, from_second, from_first, from_start, reads}
 
 -- the next byte is not of the class
 abbrev Ends : Class → List ℕ → Type 0
@@ -19,19 +22,25 @@ Ends c s = in_class c (head s) ≡ false
 
 past_stop : (c : Class) (s : List ℕ) → Ends c s → past_run c s ≡ s
 past_stop c [] h = refl
-past_stop c (b ∷ s) h = cond-false _ _ _ h
+past_stop c (b ∷ s) h = past_run-cons c b s ∙ cond-false _ _ _ h
 
 run_stop : (c : Class) (s : List ℕ) → Ends c s → run c s ≡ []
 run_stop c [] h = refl
-run_stop c (b ∷ s) h = cond-false _ _ _ h
+run_stop c (b ∷ s) h = run-cons c b s ∙ cond-false _ _ _ h
+
+first_of : (c : Class) (b : ℕ) (x : List ℕ) → Only c (b ∷ x) → in_class c b ≡ true
+first_of c b x h = All-head (λ k. in_class c k ≡ true) b x h
+
+others_of : (c : Class) (b : ℕ) (x : List ℕ) → Only c (b ∷ x) → Only c x
+others_of c b x h = All-tail (λ k. in_class c k ≡ true) b x h
 
 past_only : (c : Class) (x s : List ℕ) → Only c x → Ends c s → past_run c (x ++ s) ≡ s
 past_only c [] s h e = past_stop c s e
-past_only c (b ∷ x) s h e = cond-true _ _ _ h.0 ∙ past_only c x s h.1 e
+past_only c (b ∷ x) s h e = past_run-cons c b (x ++ s) ∙ cond-true _ _ _ (first_of c b x h) ∙ past_only c x s (others_of c b x h) e
 
 run_only : (c : Class) (x s : List ℕ) → Only c x → Ends c s → run c (x ++ s) ≡ x
 run_only c [] s h e = run_stop c s e
-run_only c (b ∷ x) s h e = cond-true _ _ _ h.0 ∙ ap (λ t. b ∷ t) (run_only c x s h.1 e)
+run_only c (b ∷ x) s h e = run-cons c b (x ++ s) ∙ cond-true _ _ _ (first_of c b x h) ∙ ap (λ t. b ∷ t) (run_only c x s (others_of c b x h) e)
 
 blank_word : (b : ℕ) → in_class Blank b ≡ true → in_class Word b ≡ false
 blank_word b h = grind arith
@@ -44,7 +53,7 @@ letter_blank b h = grind arith
 
 ends_blank : (c : Class) (b s : List ℕ) → ((k : ℕ) → in_class Blank k ≡ true → in_class c k ≡ false) → Only Blank b → Ends c s → Ends c (b ++ s)
 ends_blank c [] s f h e = e
-ends_blank c (k ∷ b) s f h e = f k h.0
+ends_blank c (k ∷ b) s f h e = f k (first_of Blank k b h)
 
 ended_blank : (s : List ℕ) → ended s ≡ true → Ends Blank s
 ended_blank [] h = refl
@@ -67,13 +76,13 @@ blank_equals : (d : ℕ) → in_class Blank d ≡ true → eqb d 61 ≡ false
 blank_equals d h = grind arith
 
 numeral_blank : (x : List ℕ) (n : ℤ) (t : List ℕ) → Numeral x n → Ends Blank (x ++ t)
-numeral_blank _ _ t (plain d ds h) = digit_blank d h.0
+numeral_blank _ _ t (plain d ds h) = digit_blank d (first_of Digit d ds h)
 numeral_blank _ _ t (minus d ds h) = refl
 
 gap_equals : (b x : List ℕ) (n : ℤ) (t : List ℕ) → Only Blank b → Numeral x n → eqb (head (b ++ (x ++ t))) 61 ≡ false
-gap_equals [] _ _ t g (plain d ds h) = digit_equals d h.0
+gap_equals [] _ _ t g (plain d ds h) = digit_equals d (first_of Digit d ds h)
 gap_equals [] _ _ t g (minus d ds h) = refl
-gap_equals (k ∷ b) x n t g num = blank_equals k g.0
+gap_equals (k ∷ b) x n t g num = blank_equals k (first_of Blank k b g)
 
 some_digits : (d : ℕ) (ds : List ℕ) → not (eqb (length (d ∷ ds)) 0) ≡ true
 some_digits d ds = ap not (ne_eqb (length (d ∷ ds)) 0 (λ e. omega arith))
@@ -93,10 +102,10 @@ numeral_read _ _ t (minus d ds h) e =
       some = ap (λ k. not (eqb (length k) 0)) r ∙ some_digits d ds;
     }
 numeral_read _ _ t (plain d ds h) e =
-    let u : unsigned ((d ∷ ds) ++ t) ≡ (d ∷ ds) ++ t = cond-false _ _ _ (digit_sign d h.0) in
+    let u : unsigned ((d ∷ ds) ++ t) ≡ (d ∷ ds) ++ t = cond-false _ _ _ (digit_sign d (first_of Digit d ds h)) in
     let r : run Digit (unsigned ((d ∷ ds) ++ t)) ≡ d ∷ ds = ap (run Digit) u ∙ run_only Digit (d ∷ ds) t h e in
     record {
-      is = cond-false _ _ _ (digit_sign d h.0) ∙ ap (λ k. pos (value k)) r;
+      is = cond-false _ _ _ (digit_sign d (first_of Digit d ds h)) ∙ ap (λ k. pos (value k)) r;
       rest = ap (past_run Digit) u ∙ past_only Digit (d ∷ ds) t h e;
       some = ap (λ k. not (eqb (length k) 0)) r ∙ some_digits d ds;
     }
@@ -215,5 +224,5 @@ read_back _ _ (two a x b c y d s o n ha name hb hc other hd bound) =
     ∙ minus_read o n s bound x c y d hc other hd
 
 -- so a line that is not read spells nothing
-pub not_spelt : (line : List ℕ) (e : Stop) → reads line ≡ Err e → (s : Said) → Spells line s → ⊥
+pub not_spelt : (line : List ℕ) (e : Stop Expected) → reads line ≡ Err e → (s : Said) → Spells line s → ⊥
 not_spelt line e h s spelt = let back = read_back line s spelt in let z : ◌≡◌ {A = ℕ} 0 1 = cc in omega arith

@@ -4,7 +4,5 @@ pub mod Choosing
 pub mod Listings
 pub mod Mentions
 pub mod Places
-pub mod Stopping
-pub mod Numerals
-pub mod Runs
+pub mod Lines
 pub mod Standing

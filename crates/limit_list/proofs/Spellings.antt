@@ -1,38 +1,38 @@
 -- What is read is spelt.
 use Rattle.std.proofs.Common.{◌≡◌, ℕ, Bool, true, false, cond, not, eqb, List, [], ◌∷◌, ◌++◌, length, drop, ℤ, pos, neg_ℤ, IfOk, Some, None, Ok, Option, Result, sym, refl, ap, ◌∙◌, subst, ⊎_elim, arith}
 use Rattle.std.proofs.lemmas.Result.{IfOk-weaker, IfOk-at_ok}
+use Rattle.std.proofs.lemmas.List.{take-append-drop}
+use Rattle.std.proofs.lemmas.List.Elements.{All-nil, All-cons}
+use Rattle.std.specs.List.{prefix_len}
 use Rattle.std.proofs.lemmas.Bool.{cond-true, cond-false, and_parts, or_left, eqb-true, cases_Bool, false≢true}
-use Rattle.limit_list.specs.declared.bytes.Class.{Class}
-use Rattle.limit_list.specs.declared.bytes.Class.TheVariants.{Blank, Word, Digit}
+use Rattle.text.specs.declared.bytes.Class.{Class}
+use Rattle.text.specs.declared.bytes.Class.TheVariants.{Blank, Word, Digit}
 use Rattle.limit_list.specs.declared.fault.Expected.{Expected}
 use Rattle.limit_list.specs.declared.fault.Expected.TheVariants as expected
-use Rattle.limit_list.specs.declared.fault.Stop.{Stop}
+use Rattle.text.specs.declared.fault.Stop.{Stop}
 use Rattle.limit_list.specs.declared.limit.Operator.{Operator}
 use Rattle.limit_list.specs.declared.limit.Operator.TheVariants.{AtMost, Below, AtLeast, Above}
-use Rattle.limit_list.specs.Bytes.{in_class, letter, run, past_run}
+use Rattle.text.specs.Bytes.{in_class, letter, run, past_run}
+use Rattle.text.specs.Numerals.{value}
+use Rattle.text.proofs.Runs.{run-cons}
 use Rattle.limit_list.specs.Grammar.{Only, Name, symbol, Numeral, plain, minus, Bound, Spells, silent, one, two}
 use Rattle.limit_list.specs.Limits.{allowed}
-use Rattle.limit_list.specs.Spelling.{Term, reading, difference, Said, nothing, limit, stops, head, ended, value, number_of, unsigned, numbered, bared, operator_of, width, after_operator, from_end, from_number, from_operator, from_second, from_first, from_start, reads}
+use Rattle.limit_list.specs.Spelling.{Term, reading, difference, Said, nothing, limit, stops, head, ended, number_of, unsigned, numbered, bared, operator_of, width, after_operator, from_end, from_number, from_operator, from_second, from_first, from_start, reads}
 
-either_made : (b : Bool) (p q : Result Said Stop) (P : Said → Type 0) → (b ≡ true → IfOk p P) → (b ≡ false → IfOk q P) → IfOk (cond b p q) P
+either_made : (b : Bool) (p q : Result Said (Stop Expected)) (P : Said → Type 0) → (b ≡ true → IfOk p P) → (b ≡ false → IfOk q P) → IfOk (cond b p q) P
 either_made true p q P f g = f refl
 either_made false p q P f g = g refl
 
-split_step : (t : Bool) (b : ℕ) (r p s : List ℕ) → r ++ p ≡ s → cond t (b ∷ r) [] ++ cond t p (b ∷ s) ≡ b ∷ s
-split_step true b r p s h = ap (λ k. b ∷ k) h
-split_step false b r p s h = refl
-
 split_run : (c : Class) (s : List ℕ) → run c s ++ past_run c s ≡ s
-split_run c [] = refl
-split_run c (b ∷ s) = split_step (in_class c b) b (run c s) (past_run c s) s (split_run c s)
+split_run c s = take-append-drop (prefix_len (in_class c) s) s
 
 only_step : (c : Class) (t : Bool) (b : ℕ) (r : List ℕ) → in_class c b ≡ t → Only c r → Only c (cond t (b ∷ r) [])
-only_step c true b r e h = (e, h)
-only_step c false b r e h = tt
+only_step c true b r e h = All-cons (λ k. in_class c k ≡ true) b r e h
+only_step c false b r e h = All-nil (λ k. in_class c k ≡ true)
 
 only_run : (c : Class) (s : List ℕ) → Only c (run c s)
-only_run c [] = tt
-only_run c (b ∷ s) = only_step c (in_class c b) b (run c s) refl (only_run c s)
+only_run c [] = All-nil (λ k. in_class c k ≡ true)
+only_run c (b ∷ s) = subst (Only c) (sym (run-cons c b s)) (only_step c (in_class c b) b (run c s) refl (only_run c s))
 
 head_is : (k : ℕ) → eqb 0 k ≡ false → (s : List ℕ) → eqb (head s) k ≡ true → s ≡ k ∷ drop 1 s
 head_is k z [] h = absurd (false≢true (sym z ∙ h))
@@ -161,7 +161,7 @@ bound_made t e s = after_made t e s (operator_of s) refl
 
 name_starts : (s : List ℕ) → letter (head s) ≡ true → letter (head (run Word s)) ≡ true
 name_starts [] h = absurd (false≢true h)
-name_starts (b ∷ s) h = ap (λ k. letter (head k)) (cond-true _ _ _ (or_left _ _ h)) ∙ h
+name_starts (b ∷ s) h = ap (λ k. letter (head k)) (run-cons Word b s ∙ cond-true _ _ _ (or_left _ _ h)) ∙ h
 
 name_made : (s : List ℕ) → letter (head s) ≡ true → Name (run Word s)
 name_made s h = record { starts = name_starts s h; goes_on = only_run Word s }

@@ -1,19 +1,21 @@
 -- How a technician spells what a line says.
-use Rattle.std.specs.Prelude.{◌≡◌, ℕ, true, List, [], ◌∷◌, ◌++◌, ℤ, pos, neg_ℤ, Ok, Err, Result}
-use Rattle.std.specs.List.{AllByRecursion}
-use Rattle.limit_list.specs.declared.bytes.Class.{Class}
-use Rattle.limit_list.specs.declared.bytes.Class.TheVariants.{Blank, Word, Digit}
-use Rattle.limit_list.specs.declared.fault.Fault.{Fault}
-use Rattle.limit_list.specs.declared.limit.Line.{Line}
+use Rattle.std.specs.Prelude.{◌≡◌, ℕ, true, List, [], ◌∷◌, ◌++◌, ℤ, pos, neg_ℤ, Ok, Err, Option, Result}
+use Rattle.std.specs.List.{AllPass}
+use Rattle.text.specs.declared.bytes.Class.{Class}
+use Rattle.text.specs.declared.bytes.Class.TheVariants.{Blank, Word, Digit}
+use Rattle.text.specs.declared.fault.Fault.{Fault}
+use Rattle.limit_list.specs.declared.fault.Expected.{Expected}
+use Rattle.limit_list.specs.declared.limit.Limit.{Limit}
 use Rattle.limit_list.specs.declared.limit.Operator.{Operator}
 use Rattle.limit_list.specs.declared.limit.Operator.TheVariants.{AtMost, Below, AtLeast, Above}
-use Rattle.limit_list.specs.Bytes.{in_class, letter}
+use Rattle.text.specs.Bytes.{in_class, letter}
+use Rattle.text.specs.Numerals.{value}
 use Rattle.limit_list.specs.Limits.{allowed}
-use Rattle.limit_list.specs.Spelling.{Said, nothing, limit, reading, difference, said, head, ended, value}
+use Rattle.limit_list.specs.Spelling.{Said, nothing, limit, reading, difference, said, head, ended}
 
 -- a text of bytes of one class only
 abbrev pub Only : Class → List ℕ → Type 0
-Only c s = AllByRecursion (λ b. in_class c b ≡ true) s
+Only c s = AllPass (in_class c) s
 
 -- a name: a letter, and then letters, digits and `_`
 pub record Name (x : List ℕ) : Type 0 where
@@ -56,6 +58,6 @@ pub data Spells : List ℕ → Said → Type 0 where
       → Spells (a ++ (x ++ (b ++ (45 ∷ (c ++ (y ++ (d ++ s))))))) (limit (difference x y) o n)
 
 -- what was read is what the line spells; of a line with a fault, that it spells nothing at all
-abbrev pub Spelt : List ℕ → Result Line Fault → Type 0
+abbrev pub Spelt : List ℕ → Result (Option Limit) (Fault Expected) → Type 0
 Spelt line (Ok l) = Spells line (said l)
 Spelt line (Err f) = (s : Said) → Spells line s → ⊥

@@ -1,7 +1,7 @@
 pub mod Adding
 pub mod Answers
-pub mod Bytes
 pub mod Grammar
 pub mod Limits
 pub mod Listing
 pub mod Spelling
+pub mod Words

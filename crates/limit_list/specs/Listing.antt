@@ -1,38 +1,33 @@
 -- What a whole text lists: the lines, the readings by first mention, and a row for each limit.
-use Rattle.std.specs.Prelude.{◌≡◌, ℕ, ◌+◌, Bool, true, false, cond, List, [], ◌∷◌, ◌++◌, map, length, replicate, ℤ, Ok, Err, vec_items, fold, Result, ◌==◌, nat_lt}
+use Rattle.std.specs.Prelude.{◌≡◌, ℕ, ◌+◌, Bool, true, false, cond, List, [], ◌∷◌, ◌++◌, map, length, replicate, ℤ, Ok, Err, vec_items, fold, Result, nat_lt}
+use Rattle.std.specs.List.{position_or_len}
 use Rattle.std.specs.Str.{bytes_eq}
 use Rattle.domain.specs.declared.predicate.Row.{Row}
-use Rattle.limit_list.specs.declared.fault.Fault.{Fault}
+use Rattle.text.specs.declared.fault.Fault.{Fault}
+use Rattle.text.specs.declared.trouble.Trouble.{Trouble}
+use Rattle.text.specs.declared.trouble.Trouble.TheVariants.{Misread, Memory}
+use Rattle.text.specs.Lines.{lines}
+use Rattle.limit_list.specs.declared.fault.Expected.{Expected}
 use Rattle.limit_list.specs.declared.limit.Operator.{Operator}
+use Rattle.limit_list.specs.declared.limit.Quantity.{Quantity}
+use Rattle.limit_list.specs.declared.limit.Quantity.TheVariants.{Reading, Difference}
 use Rattle.limit_list.specs.declared.list.LimitList.{LimitList}
-use Rattle.limit_list.specs.declared.trouble.Trouble.{Trouble}
-use Rattle.limit_list.specs.declared.trouble.Trouble.TheVariants.{Misread, Memory}
 use Rattle.limit_list.specs.Limits.{form_of, constant_of}
 use Rattle.limit_list.specs.Spelling.{Term, reading, difference, Said, nothing, limit, reads, placed}
 
-abbrev pub onto : ℕ → List (List ℕ) → List (List ℕ)
-onto b [] = (b ∷ []) ∷ []
-onto b (l ∷ ls) = (b ∷ l) ∷ ls
-
--- the lines of a text: a line feed ends one
-abbrev pub lines : List ℕ → List (List ℕ)
-lines [] = []
-lines (b ∷ bs) = cond (b == 10) ([] ∷ lines bs) (onto b (lines bs))
-
-abbrev pub before : Result Said Fault → Result (List Said) Fault → Result (List Said) Fault
+abbrev pub before : Result Said (Fault Expected) → Result (List Said) (Fault Expected) → Result (List Said) (Fault Expected)
 before (Err f) r = Err f
 before (Ok s) (Err f) = Err f
 before (Ok s) (Ok ss) = Ok (s ∷ ss)
 
 -- what lines say that are numbered from n, or the first fault
-abbrev pub says_all : ℕ → List (List ℕ) → Result (List Said) Fault
+abbrev pub says_all : ℕ → List (List ℕ) → Result (List Said) (Fault Expected)
 says_all n [] = Ok []
 says_all n (l ∷ ls) = before (placed n l (reads l)) (says_all (n + 1) ls)
 
 -- the place of a name among names that are all different; their number if it is not among them
 abbrev pub place : List (List ℕ) → List ℕ → ℕ
-place [] x = 0
-place (n ∷ ns) x = cond (bytes_eq n x) 0 (1 + place ns x)
+place ns x = position_or_len (λ n. bytes_eq n x) ns
 
 -- a name not yet mentioned comes last
 abbrev pub mention : List (List ℕ) → List ℕ → List (List ℕ)
@@ -52,6 +47,11 @@ names_of ss = fold mention_said [] ss
 
 abbrev pub row_at : Bool → ℕ → ℕ → Operator → ℤ → Row
 row_at paired i j o n = record { predicate = record { kind = 0; form = form_of paired o; constant = constant_of o n }; first = i; second = j }
+
+-- the row of a limit on the readings at these places
+abbrev pub row_over : Quantity ℕ → Operator → ℤ → Row
+row_over (Reading i) o n = row_at false i i o n
+row_over (Difference i j) o n = row_at true i j o n
 
 -- the row of a limit, over the places of its readings
 abbrev pub row : List (List ℕ) → Term → Operator → ℤ → Row
@@ -75,7 +75,7 @@ pub record Lists (ss : List Said) (l : LimitList) : Type 0 where
   pub rows : vec_items l.rows ≡ rows_of (names_of ss) ss
 
 -- what reading a text gives: a list of all that its lines say, or the first fault; nothing is said where memory fails
-abbrev pub Read : List ℕ → Result LimitList Trouble → Type 0
+abbrev pub Read : List ℕ → Result LimitList (Trouble (Fault Expected)) → Type 0
 Read text (Ok l) = (ss : List Said) × (says_all 1 (lines text) ≡ Ok ss) × Lists ss l
 Read text (Err (Misread f)) = says_all 1 (lines text) ≡ Err f
 Read text (Err Memory) = Unit {0}

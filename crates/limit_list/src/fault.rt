@@ -2,7 +2,7 @@
 use crate::limit::Operator;
 
 // What was expected where the reading of a line stopped. A number is one that fits the operator before it.
-#[derive(Clone, Copy)]
+#[derive(Clone, Copy, Debug, PartialEq, Eq)]
 pub enum Expected {
     Name,
     MinusOrOperator,
@@ -11,17 +11,11 @@ pub enum Expected {
     EndOfLine,
 }
 
-// Where the reading of a line stopped: what was expected, and how many bytes of the line were left.
-#[derive(Clone, Copy)]
-pub struct Stop {
-    pub expected: Expected,
-    pub left: usize,
-}
+// Where the reading of a line stopped.
+pub type Stop = text::Stop<Expected>;
 
-// A fault of a list: its line and its column, both from 1, and what was expected there.
-#[derive(Clone, Copy)]
-pub struct Fault {
-    pub line: usize,
-    pub column: usize,
-    pub expected: Expected,
-}
+// A fault of a list.
+pub type Fault = text::Fault<Expected>;
+
+// Why a text gives no list: a line cannot be read, or there is not enough memory.
+pub type Trouble = text::Trouble<Fault>;

@@ -3,7 +3,7 @@
 #![tactic(auto)]
 
 mod answering;
-mod bytes;
+mod comparison;
 pub mod fault;
 mod limit;
 mod list;
@@ -11,15 +11,14 @@ mod listing;
 mod meaning;
 mod numeral;
 mod parse;
-mod trouble;
 pub mod words;
 
-pub use answering::{Verdict, answer};
-pub use fault::{Expected, Fault};
-pub use limit::{Limit, Line, Operator, Quantity};
+pub use answering::{Unanswered, answer};
+pub use comparison::Comparison;
+pub use fault::{Expected, Fault, Trouble};
+pub use limit::{Limit, Operator, Quantity};
 pub use list::LimitList;
 pub use listing::read_list;
 pub use meaning::predicate_of;
 pub use parse::parse_line;
-pub use trouble::Trouble;
-pub use words::verdict_text;
+pub use words::Answered;

@@ -1,7 +1,8 @@
 // What a line of a list says.
+use crate::comparison::Comparison;
 
 // How a quantity is compared with a number.
-#[derive(Clone, Copy)]
+#[derive(Clone, Copy, Debug, PartialEq, Eq)]
 pub enum Operator {
     AtMost,
     Below,
@@ -9,24 +10,16 @@ pub enum Operator {
     Above,
 }
 
-// What a limit is about: one reading, or the first reading less the second.
-#[derive(Clone, Copy)]
-pub enum Quantity<'a> {
-    Reading(&'a [u8]),
-    Difference(&'a [u8], &'a [u8]),
+// What a limit is about: one reading, or the first reading less the second. A reading is told by its name or by its place.
+#[derive(Clone, Copy, Debug, PartialEq, Eq)]
+pub enum Quantity<T> {
+    Reading(T),
+    Difference(T, T),
 }
 
-// A quantity, an operator and a whole number of tenths of a degree.
-#[derive(Clone, Copy)]
+// A quantity, and how it is compared with a whole number of tenths of a degree.
+#[derive(Clone, Copy, Debug, PartialEq, Eq)]
 pub struct Limit<'a> {
-    pub quantity: Quantity<'a>,
-    pub operator: Operator,
-    pub number: i32,
-}
-
-// A line says nothing (it is blank or a comment), or it is a limit.
-#[derive(Clone, Copy)]
-pub enum Line<'a> {
-    Nothing,
-    Limits(Limit<'a>),
+    pub quantity: Quantity<&'a [u8]>,
+    pub comparison: Comparison,
 }

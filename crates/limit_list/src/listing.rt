@@ -1,122 +1,89 @@
 // Reads a whole text into a list.
-ghost use Rattle.std.specs.Prelude.{◌≡◌, ℕ, ◌+◌, ◌<◌, ◌≤◌, true, false, List, [], ◌∷◌, ◌++◌, map, drop, IfOk, Ok, Err, OnOk};
-ghost use Rattle.limit_list.specs.Bytes.{run, past_run};
-ghost use Rattle.limit_list.specs.Limits.{allowed};
-ghost use Rattle.limit_list.specs.Spelling.{difference, limit, said_by};
-ghost use Rattle.limit_list.specs.Listing.{place, mention, Read};
-ghost use Rattle.limit_list.specs.Adding.{Mentioned, Rowed, Added, Took};
+ghost use Rattle.std.specs.Prelude.{◌≡◌, map, IfOk, OnOk, MatchOption};
+ghost use Rattle.std.specs.List.{position};
+ghost use Rattle.std.specs.Str.{bytes_eq};
+ghost use Rattle.limit_list.specs.Spelling.{said_by};
+ghost use Rattle.limit_list.specs.Listing.{row_over, Read};
+ghost use Rattle.limit_list.specs.Adding.{Mentioned, Placed, Added, Took};
 
-use crate::bytes::{Class, after, cut};
-use crate::limit::{Limit, Line, Operator, Quantity};
+use crate::comparison::Comparison;
+use crate::fault::Trouble;
+use crate::limit::{Limit, Quantity};
 use crate::list::LimitList;
-use crate::meaning::{TENTHS, predicate_of};
+use crate::meaning::TENTHS;
 use crate::parse::parse_line;
-use crate::trouble::Trouble;
 use domain::Row;
 use std::alloc::{AllocError, Global};
-
-// The place of a name among the names, their number if it is not among them.
-fn place_of(names: &[&[u8]], name: &[u8]) -> usize
-    ensures { result ≡ place (map (λ x. x.now) names.now) name.now }
-{
-    for (i, other) in names.iter().enumerate() {
-        if *other == name {
-            return i;
-        }
-    }
-    names.len()
-}
+use text::Lines;
 
 // The place of the reading with this name, which comes last if it was not yet mentioned.
 fn place_or_add<'a>(list: &mut LimitList<'a>, name: &'a [u8]) -> Result<usize, AllocError>
     ensures { IfOk result (Mentioned list.old name.now list.new) }
 {
-    let place = place_of(list.names.as_slice(), name);
-    if place == list.names.len() {
-        list.names.push(name)?;
-        list.kinds.push(TENTHS)?;
+    if let Some(place) = place_of(list.names.as_slice(), name) {
+        return Ok(place);
     }
+    let place = list.names.len();
+    list.names.push(name)?;
+    list.kinds.push(TENTHS)?;
     Ok(place)
 }
 
-// Adds the row of a limit over readings at these places.
-fn push_row(
-    list: &mut LimitList<'_>,
-    paired: bool,
-    first: usize,
-    second: usize,
-    operator: Operator,
-    number: i32,
-) -> Result<(), AllocError>
-    requires { allowed operator number ≡ true }
-    ensures { OnOk result (Rowed list.old paired first second operator number list.new) }
+// The place of a name among the names.
+fn place_of(names: &[&[u8]], name: &[u8]) -> Option<usize>
+    ensures { result ≡ position (λ other. bytes_eq other.now name.now) names.now }
 {
-    match predicate_of(paired, operator, number) {
-        None => unreachable(),
-        Some(predicate) => {
-            list.rows.push(Row {
-                predicate,
-                first,
-                second,
-            })?;
-            Ok(())
+    names.iter().position(|other| *other == name)
+}
+
+// The places of the readings of a quantity, which come last where they were not yet mentioned.
+#[tactic(auto, using(crate::proofs::Mentions::placed_two))]
+fn places<'a>(
+    list: &mut LimitList<'a>,
+    quantity: Quantity<&'a [u8]>,
+) -> Result<Quantity<usize>, AllocError>
+    ensures { IfOk result (Placed list.old quantity.entry list.new) }
+{
+    match quantity {
+        Quantity::Reading(name) => {
+            let place = place_or_add(list, name)?;
+            Ok(Quantity::Reading(place))
+        }
+        Quantity::Difference(name, other) => {
+            let first = place_or_add(list, name)?;
+            let second = place_or_add(list, other)?;
+            Ok(Quantity::Difference(first, second))
         }
     }
 }
 
-// Adds a limit on the difference of two readings.
-fn add_pair<'a>(
-    list: &mut LimitList<'a>,
-    name: &'a [u8],
-    other: &'a [u8],
-    operator: Operator,
-    number: i32,
-) -> Result<(), AllocError>
-    requires { allowed operator number ≡ true }
-    ensures { OnOk result (Added list.old (limit (difference name.now other.now) operator number) list.new) }
+// The row of a limit on the readings at these places.
+fn row_over(over: Quantity<usize>, comparison: Comparison) -> Row
+    ensures { result ≡ row_over over comparison.operator comparison.number }
 {
-    let first = place_or_add(list, name)?;
-    let second = place_or_add(list, other)?;
-    push_row(list, true, first, second, operator, number)
+    match over {
+        Quantity::Reading(place) => Row::new(comparison.predicate(false), place, place),
+        Quantity::Difference(first, second) => Row::new(comparison.predicate(true), first, second),
+    }
 }
 
 // Adds a limit: its readings, where they were not yet mentioned, and its row.
 fn add<'a>(list: &mut LimitList<'a>, limit: Limit<'a>) -> Result<(), AllocError>
-    requires { allowed limit.operator limit.number ≡ true }
     ensures { OnOk result (Added list.old (said_by limit.entry) list.new) }
 {
-    match limit.quantity {
-        Quantity::Reading(name) => {
-            let place = place_or_add(list, name)?;
-            push_row(list, false, place, place, limit.operator, limit.number)
-        }
-        Quantity::Difference(name, other) => {
-            add_pair(list, name, other, limit.operator, limit.number)
-        }
-    }
+    let over = places(list, limit.quantity)?;
+    list.rows.push(row_over(over, limit.comparison))?;
+    Ok(())
 }
 
 // Adds what the line with this number says.
 fn take_line<'a>(list: &mut LimitList<'a>, number: usize, line: &'a [u8]) -> Result<(), Trouble>
     ensures { Took list.old number line.now list.new result }
 {
-    match parse_line(number, line) {
-        Err(fault) => Err(Trouble::Misread(fault)),
-        Ok(Line::Nothing) => Ok(()),
-        Ok(Line::Limits(limit)) => {
-            add(list, limit)?;
-            Ok(())
-        }
+    if let Some(limit) = parse_line(number, line)? {
+        add(list, limit)?;
     }
-}
-
-// The first line of a text, and what follows the line feed that ends it.
-fn first_line(text: &[u8]) -> (&[u8], &[u8])
-    ensures front { result.0.now ≡ run Class.Inline text.now }
-    ensures rest { result.1.now ≡ drop 1 (past_run Class.Inline text.now) }
-{
-    let (line, more) = cut(Class::Inline, text);
-    (line, after(more, 1))
+    Ok(())
 }
 
 // Reads a text, line by line, up to the first line that cannot be read.
@@ -128,17 +95,8 @@ pub fn read_list<'a>(heap: Global, text: &'a [u8]) -> Result<LimitList<'a>, Trou
         kinds: Vec::new(heap),
         rows: Vec::new(heap),
     };
-    let mut rest = text;
-    let mut number = 1;
-    while rest.len() > 0 {
-        let (line, more) = first_line(rest);
-        match take_line(&mut list, number, line) {
-            Err(trouble) => return Err(trouble),
-            Ok(()) => {
-                rest = more;
-                number += 1;
-            }
-        }
+    for (index, line) in Lines::new(text).enumerate() {
+        take_line(&mut list, index + 1, line)?;
     }
     Ok(list)
 }

@@ -28,11 +28,7 @@ pub fn constant_of(operator: Operator, number: i32) -> Option<i32>
 fn known(constant: i32) -> Option<i32>
     ensures { result ≡ when (known_constant constant) constant }
 {
-    if constant >= LOWEST && constant <= HIGHEST {
-        Some(constant)
-    } else {
-        None
-    }
+    (LOWEST..=HIGHEST).contains(&constant).then_some(constant)
 }
 
 // The predicate of a limit on one reading, or on the difference of two (`paired`), if its constant is known.

@@ -1,68 +1,45 @@
 // Whole numbers as they are written.
-ghost use Rattle.std.specs.Prelude.{◌≡◌, ℕ, ◌<◌, ◌≤◌, length, pos, neg_ℤ, if◌then◌else◌, MatchOption, ◌==◌};
-ghost use Rattle.limit_list.specs.Limits.{when, allowed};
-ghost use Rattle.limit_list.specs.Spelling.{head, value, unsigned, numbered, number_of};
+ghost use Rattle.std.specs.Prelude.{◌≡◌, true, false, pos, neg_ℤ, ◌≤ℤ◌, if◌then◌else◌, MatchOption, ◌==◌};
+ghost use Rattle.text.specs.Bytes.{past_run};
+ghost use Rattle.limit_list.specs.Spelling.{head, unsigned, numbered, number_of};
 
-use crate::bytes::{Class, after, cut, first};
+use crate::comparison::Comparison;
 use crate::limit::Operator;
-use crate::meaning::constant_of;
-
-// Above every number that may stand after an operator.
-const TOO_LARGE: u32 = 65_538;
-
-// The value of these digits, if it is below TOO_LARGE.
-fn digits_value(digits: &[u8]) -> Option<u32>
-    ensures { MatchOption result (65538 ≤ value digits.now) (λ n. (n < 65538) × (n ≡ value digits.now)) }
-{
-    let mut n: u32 = 0;
-    for d in digits {
-        n = n * 10 + u32::from(d.saturating_sub(b'0'));
-        if n >= TOO_LARGE {
-            return None;
-        }
-    }
-    Some(n)
-}
+use text::{Class, cut, digits_value};
 
 fn negative(s: &[u8]) -> bool
     ensures { result ≡ (head s.now == 45) }
 {
-    first(s) == b'-'
+    matches!(s, [b'-', ..])
 }
 
 // The text after a minus sign, if one stands at its front.
-pub fn after_sign(s: &[u8]) -> &[u8]
+fn after_sign(s: &[u8]) -> &[u8]
     ensures { result.now ≡ unsigned s.now }
 {
-    if negative(s) { after(s, 1) } else { s }
+    match s {
+        [b'-', rest @ ..] => rest,
+        _ => s,
+    }
 }
 
-// The number at the front, if there is one that may follow the operator.
-pub fn number(operator: Operator, s: &[u8]) -> Option<i32>
-    ensures { result ≡ when (numbered operator s.now) (number_of s.now) }
+fn signed(negative: bool, number: i32) -> i32
+    requires { pos 0 ≤ℤ number }
+    ensures { result ≡ (if negative then neg_ℤ number else number) }
 {
-    let (digits, _) = cut(Class::Digit, after_sign(s));
-    if digits.len() == 0 {
+    if negative { -number } else { number }
+}
+
+// The comparison by this operator with the number at the front, and what follows it, if a number stands there that may follow the
+// operator.
+pub fn comparison(operator: Operator, s: &[u8]) -> Option<(Comparison, &[u8])>
+    ensures { MatchOption result (numbered operator s.now ≡ false) (λ p. (numbered operator s.now ≡ true) × (p.0.operator ≡ operator) × (p.0.number ≡ number_of s.now) × (p.1.now ≡ past_run Class.Digit (unsigned s.now))) }
+{
+    let (digits, rest) = cut(Class::Digit, after_sign(s));
+    if digits.is_empty() {
         return None;
     }
-    match digits_value(digits) {
-        None => None,
-        Some(n) => allowed_number(operator, signed(negative(s), n)),
-    }
-}
-
-fn signed(negative: bool, n: u32) -> i32
-    requires { n < 65538 }
-    ensures { result ≡ (if negative then neg_ℤ (pos n) else pos n) }
-{
-    if negative { -(n as i32) } else { n as i32 }
-}
-
-fn allowed_number(operator: Operator, n: i32) -> Option<i32>
-    ensures { result ≡ when (allowed operator n) n }
-{
-    match constant_of(operator, n) {
-        None => None,
-        Some(_) => Some(n),
-    }
+    let number = i32::try_from(digits_value(digits)?).ok()?;
+    let comparison = Comparison::new(operator, signed(negative(s), number))?;
+    Some((comparison, rest))
 }

@@ -1,20 +1,20 @@
 // Reads one line.
-ghost use Rattle.std.specs.Prelude.{◌≡◌, ℕ, ◌+◌, ◌-◌, ◌≤◌, length, IfOk, IfErr, Some, None};
+ghost use Rattle.std.specs.Prelude.{◌≡◌, ◌+◌, ◌≤◌, length, drop, IfOk, IfErr, MatchOption};
 ghost use Rattle.limit_list.specs.Grammar.{Spelt};
 ghost use Rattle.limit_list.specs.Spelling.{ended, head, said, told, Fitting, stops, operator_of, width, numbered, number_of, unsigned, term_of, from_end, from_number, from_operator, from_second, from_first, from_start, reads, placed};
 
-use crate::bytes::{Class, after, bare, cut, first, is_letter};
 use crate::fault::{Expected, Fault, Stop};
-use crate::limit::{Limit, Line, Operator, Quantity};
-use crate::numeral::{after_sign, number};
+use crate::limit::{Limit, Operator, Quantity};
+use crate::numeral::comparison;
+use text::{Class, after, bare, cut, first};
 
 fn is_ended(s: &[u8]) -> bool
     ensures { result ≡ ended s.now }
 {
-    s.len() == 0 || first(s) == b'#'
+    matches!(s, [] | [b'#', ..])
 }
 
-fn stop<'a>(expected: Expected, s: &[u8]) -> Result<Line<'a>, Stop>
+fn stop<'a>(expected: Expected, s: &[u8]) -> Result<Option<Limit<'a>>, Stop>
     ensures { told result ≡ stops expected s.now }
 {
     Err(Stop {
@@ -23,80 +23,67 @@ fn stop<'a>(expected: Expected, s: &[u8]) -> Result<Line<'a>, Stop>
     })
 }
 
-fn from_end<'a>(limit: Limit<'a>, s: &'a [u8]) -> Result<Line<'a>, Stop>
-    ensures { told result ≡ from_end (term_of limit.entry.quantity) limit.entry.operator limit.entry.number s.now }
+#[tactic(auto, unfolding(crate::specs::Spelling::from_end))]
+fn from_end<'a>(limit: Limit<'a>, s: &'a [u8]) -> Result<Option<Limit<'a>>, Stop>
+    ensures { told result ≡ from_end (term_of limit.entry.quantity) limit.entry.comparison.operator limit.entry.comparison.number s.now }
 {
     if is_ended(s) {
-        Ok(Line::Limits(limit))
+        Ok(Some(limit))
     } else {
         stop(Expected::EndOfLine, s)
     }
 }
 
+#[tactic(auto, unfolding(crate::specs::Spelling::from_number))]
 fn from_number<'a>(
-    quantity: Quantity<'a>,
+    quantity: Quantity<&'a [u8]>,
     operator: Operator,
     s: &'a [u8],
-) -> Result<Line<'a>, Stop>
+) -> Result<Option<Limit<'a>>, Stop>
     ensures { told result ≡ from_number (term_of quantity.entry) operator s.now }
 {
-    let Some(number) = number(operator, s) else {
+    let Some((comparison, rest)) = comparison(operator, s) else {
         return stop(Expected::Number(operator), s);
     };
-    let (_, rest) = cut(Class::Digit, after_sign(s));
     let limit = Limit {
         quantity,
-        operator,
-        number,
+        comparison,
     };
     from_end(limit, bare(rest))
 }
 
-fn operator_at(s: &[u8]) -> Option<Operator>
-    ensures { result ≡ operator_of s.now }
+// The operator at the front, and what follows it.
+fn operator_at(s: &[u8]) -> Option<(Operator, &[u8])>
+    ensures { MatchOption result (operator_of s.now ≡ None) (λ p. (operator_of s.now ≡ Some p.0) × (p.1.now ≡ drop (width p.0) s.now)) }
 {
-    let equal = first(after(s, 1)) == b'=';
-    match first(s) {
-        b'<' => if equal {
-            Some(Operator::AtMost)
-        } else {
-            Some(Operator::Below)
-        },
-        b'>' => if equal {
-            Some(Operator::AtLeast)
-        } else {
-            Some(Operator::Above)
-        },
+    match s {
+        [b'<', b'=', rest @ ..] => Some((Operator::AtMost, rest)),
+        [b'<', rest @ ..] => Some((Operator::Below, rest)),
+        [b'>', b'=', rest @ ..] => Some((Operator::AtLeast, rest)),
+        [b'>', rest @ ..] => Some((Operator::Above, rest)),
         _ => None,
     }
 }
 
-fn width_of(operator: Operator) -> usize
-    ensures { result ≡ width operator }
-{
-    match operator {
-        Operator::AtMost | Operator::AtLeast => 2,
-        Operator::Below | Operator::Above => 1,
-    }
-}
-
+#[tactic(auto, unfolding(crate::specs::Spelling::from_operator))]
 fn from_operator<'a>(
-    quantity: Quantity<'a>,
+    quantity: Quantity<&'a [u8]>,
     expected: Expected,
     s: &'a [u8],
-) -> Result<Line<'a>, Stop>
+) -> Result<Option<Limit<'a>>, Stop>
     ensures { told result ≡ from_operator (term_of quantity.entry) expected s.now }
 {
     match operator_at(s) {
         None => stop(expected, s),
-        Some(operator) => from_number(quantity, operator, bare(after(s, width_of(operator)))),
+        Some((operator, rest)) => from_number(quantity, operator, bare(rest)),
     }
 }
 
-fn from_second<'a>(name: &'a [u8], s: &'a [u8]) -> Result<Line<'a>, Stop>
+#[tactic(auto, unfolding(crate::specs::Spelling::from_second))]
+fn from_second<'a>(name: &'a [u8], s: &'a [u8]) -> Result<Option<Limit<'a>>, Stop>
     ensures { told result ≡ from_second name.now s.now }
 {
-    if !is_letter(first(s)) {
+    if !Class::Letter.has(first(s)) {
         return stop(Expected::Name, s);
     }
     let (second, rest) = cut(Class::Word, s);
@@ -107,7 +94,8 @@ fn from_second<'a>(name: &'a [u8], s: &'a [u8]) -> Result<Line<'a>, Stop>
     )
 }
 
-fn from_first<'a>(name: &'a [u8], s: &'a [u8]) -> Result<Line<'a>, Stop>
+#[tactic(auto, unfolding(crate::specs::Spelling::from_first))]
+fn from_first<'a>(name: &'a [u8], s: &'a [u8]) -> Result<Option<Limit<'a>>, Stop>
     ensures { told result ≡ from_first name.now s.now }
 {
     if first(s) == b'-' {
@@ -117,41 +105,27 @@ fn from_first<'a>(name: &'a [u8], s: &'a [u8]) -> Result<Line<'a>, Stop>
     }
 }
 
-fn from_start<'a>(s: &'a [u8]) -> Result<Line<'a>, Stop>
+#[tactic(auto, unfolding(crate::specs::Spelling::from_start))]
+fn from_start<'a>(s: &'a [u8]) -> Result<Option<Limit<'a>>, Stop>
     ensures { told result ≡ from_start s.now }
 {
     if is_ended(s) {
-        return Ok(Line::Nothing);
+        return Ok(None);
     }
-    if !is_letter(first(s)) {
+    if !Class::Letter.has(first(s)) {
         return stop(Expected::Name, s);
     }
     let (name, rest) = cut(Class::Word, s);
     from_first(name, bare(rest))
 }
 
-// The column, from 1, at which this many bytes of the line are left.
-fn column_of(line: &[u8], left: usize) -> usize
-    requires { left ≤ length line.now }
-    ensures { result ≡ length line.now - left + 1 }
-{
-    line.len() - left + 1
-}
-
 // What the line with this number says, or where it cannot be read on. A line that spells something is read as what it spells,
 // and a fault is found in no other line.
-pub fn parse_line<'a>(number: usize, line: &'a [u8]) -> Result<Line<'a>, Fault>
+pub fn parse_line<'a>(number: usize, line: &'a [u8]) -> Result<Option<Limit<'a>>, Fault>
     ensures read { told result ≡ placed number line.now (reads line.now) }
     ensures spelt { Spelt line.now result }
     ensures fitting { IfOk result (λ l. Fitting (said l)) }
     ensures inside { IfErr result (λ f. (1 ≤ f.column) × (f.column ≤ length line.now + 1)) }
 {
-    match from_start(bare(line)) {
-        Ok(line) => Ok(line),
-        Err(stop) => Err(Fault {
-            line: number,
-            column: column_of(line, stop.left),
-            expected: stop.expected,
-        }),
-    }
+    from_start(bare(line)).map_err(|stop| stop.in_line(number, line))
 }

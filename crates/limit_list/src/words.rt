@@ -1,37 +1,31 @@
 // Faults and answers in words.
-use crate::answering::Verdict;
-use crate::fault::{Expected, Fault};
+use crate::answering::Unanswered;
+use crate::fault::Expected;
 use crate::limit::Operator;
 use crate::list::LimitList;
 use domain::Refusal;
-use std::alloc::{AllocError, Global};
+use std::error::Error;
 use std::fmt;
 
 impl fmt::Display for Expected {
+    ghost use Rattle.std.specs.Prelude.{Some};
+    ghost use Rattle.limit_list.specs.Words.{expected_text};
+
+    ghost output = { λ e. Some (expected_text e) };
+
     fn fmt<W: fmt::Write>(&self, f: &mut fmt::Formatter<W>) -> fmt::Result {
         match self {
-            Expected::Name => write!(f, "the name of a reading"),
-            Expected::MinusOrOperator => write!(f, "-, <=, <, >= or >"),
-            Expected::Operator => write!(f, "<=, <, >= or >"),
-            Expected::Number(operator) => write_range(*operator, f),
-            Expected::EndOfLine => write!(f, "the end of the line"),
+            Expected::Name => f.write_str("the name of a reading"),
+            Expected::MinusOrOperator => f.write_str("-, <=, <, >= or >"),
+            Expected::Operator => f.write_str("<=, <, >= or >"),
+            Expected::Number(Operator::AtMost | Operator::Above) => {
+                f.write_str("a whole number from -65536 to 65536")
+            }
+            Expected::Number(Operator::Below | Operator::AtLeast) => {
+                f.write_str("a whole number from -65535 to 65537")
+            }
+            Expected::EndOfLine => f.write_str("the end of the line"),
         }
-    }
-}
-
-fn write_range<W: fmt::Write>(operator: Operator, f: &mut fmt::Formatter<W>) -> fmt::Result {
-    match operator {
-        Operator::AtMost | Operator::Above => write!(f, "a whole number from -65536 to 65536"),
-        Operator::Below | Operator::AtLeast => write!(f, "a whole number from -65535 to 65537"),
-    }
-}
-
-impl fmt::Display for Fault {
-    fn fmt<W: fmt::Write>(&self, f: &mut fmt::Formatter<W>) -> fmt::Result {
-        let line = self.line;
-        let column = self.column;
-        let expected = self.expected;
-        write!(f, "line {line}, column {column}: expected {expected}")
     }
 }
 
@@ -48,38 +42,57 @@ impl fmt::Display for Degrees {
     }
 }
 
-fn reading_text(heap: Global, name: &[u8], value: i32) -> Result<String, AllocError> {
-    let name = String::from_utf8_lossy(heap, name)?;
-    let degrees = Degrees(value);
-    format!(in heap; "{name}  {value}  ({degrees})\n")
+// The name of a reading, with a replacement character for what is not UTF-8.
+fn write_name<W: fmt::Write>(name: &[u8], f: &mut fmt::Formatter<W>) -> fmt::Result {
+    for chunk in name.utf8_chunks() {
+        f.write_str(chunk.valid())?;
+        if !chunk.invalid().is_empty() {
+            f.write_str("\u{fffd}")?;
+        }
+    }
+    Ok(())
 }
 
-fn refusal_text(heap: Global, refusal: &Refusal) -> Result<String, AllocError> {
-    let number = refusal.number();
-    match refusal {
-        Refusal::TooMany => format!(in heap; "refused ({number}): more than 256 limits\n"),
-        _ => format!(in heap; "refused ({number})\n"),
+// An answer in words: a line for each reading of the list, with its value in tenths and in degrees, or one line that says that
+// there are no values.
+#[derive(Clone, Copy)]
+pub struct Answered<'a, 't> {
+    pub list: &'a LimitList<'t>,
+    pub values: &'a Option<Vec<i32>>,
+}
+
+impl fmt::Display for Answered<'_, '_> {
+    fn fmt<W: fmt::Write>(&self, f: &mut fmt::Formatter<W>) -> fmt::Result {
+        let Some(values) = self.values else {
+            return writeln!(f, "no whole tenths satisfy all limits");
+        };
+        for (name, value) in self.list.names.iter().zip(values.iter()) {
+            write_name(name, f)?;
+            let degrees = Degrees(*value);
+            writeln!(f, "  {value}  ({degrees})")?;
+        }
+        Ok(())
     }
 }
 
-// An answer in words: a line for each reading, with its value in tenths and in degrees, or one line that says that there is none.
-pub fn verdict_text(
-    heap: Global,
-    list: &LimitList<'_>,
-    verdict: &Verdict,
-) -> Result<String, AllocError> {
-    match verdict {
-        Verdict::NoValues => String::from_str(heap, "no whole tenths satisfy all limits\n"),
-        Verdict::Refused(refusal) => refusal_text(heap, refusal),
-        Verdict::Values(values) => values_text(heap, list, values.as_slice()),
+impl fmt::Display for Unanswered {
+    ghost use Rattle.std.specs.Prelude.{Some};
+    ghost use Rattle.limit_list.specs.Words.{unanswered_text};
+
+    ghost output = { λ u. Some (unanswered_text u) };
+
+    fn fmt<W: fmt::Write>(&self, f: &mut fmt::Formatter<W>) -> fmt::Result {
+        match self {
+            Unanswered::Memory => f.write_str("memory allocation failed"),
+            Unanswered::Refused(refusal) => {
+                let number = refusal.number();
+                match refusal {
+                    Refusal::TooMany => writeln!(f, "refused ({number}): more than 256 limits"),
+                    _ => writeln!(f, "refused ({number})"),
+                }
+            }
+        }
     }
 }
 
-fn values_text(heap: Global, list: &LimitList<'_>, values: &[i32]) -> Result<String, AllocError> {
-    let mut text = String::new(heap);
-    for (name, value) in list.names.iter().zip(values.iter()) {
-        let line = reading_text(heap, *name, *value)?;
-        text.push_str(line.as_str())?;
-    }
-    Ok(text)
-}
+impl Error for Unanswered {}

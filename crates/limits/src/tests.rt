@@ -1,5 +1,5 @@
 // Lists as a technician might write them: where a fault is found, and what is answered.
-use limit_list::{Trouble, Verdict, answer, read_list};
+use limit_list::{Trouble, Unanswered, answer, read_list};
 use std::alloc::Global;
 use std::process::Abort;
 use std::test::Fail;
@@ -32,31 +32,29 @@ fn faults_are_placed(rt: HostRuntime) -> Result<(), Fail> {
     fault_at(&rt, heap, b"return - supply", 1, 16)
 }
 
-// 0 for values, 1 for none, and a refusal's number.
-fn outcome(heap: Global, text: &[u8]) -> Result<u32, Fail> {
-    let list = match read_list(heap, text) {
-        Ok(list) => list,
-        Err(_) => return Err(Fail::new("a fault")),
+// Whether there are values for the readings of a list, or the number with which the list is refused.
+fn outcome(heap: Global, text: &[u8]) -> Result<Result<bool, u32>, Fail> {
+    let Ok(list) = read_list(heap, text) else {
+        return Err(Fail::new("a fault"));
     };
-    let mut domain = Tenths;
-    match answer(heap, &mut domain, &list)? {
-        Verdict::Values(_) => Ok(0),
-        Verdict::NoValues => Ok(1),
-        Verdict::Refused(refusal) => Ok(refusal.number()),
+    match answer(heap, &mut Tenths, &list) {
+        Ok(values) => Ok(Ok(values.is_some())),
+        Err(Unanswered::Refused(refusal)) => Ok(Err(refusal.number())),
+        Err(Unanswered::Memory) => Err(Fail::new("not enough memory")),
     }
 }
 
 #[test]
 fn answers_are_given(rt: HostRuntime) -> Result<(), Fail> {
     let heap = rt.alloc();
-    assert_eq!(rt; outcome(heap, b"a - b > 0\nb >= -5\na < -3")?, 0);
-    assert_eq!(rt; outcome(heap, b"a - b > 0\nb >= -5\na < -4")?, 1);
+    assert_eq!(rt; outcome(heap, b"a - b > 0\nb >= -5\na < -3")?, Ok(true));
+    assert_eq!(rt; outcome(heap, b"a - b > 0\nb >= -5\na < -4")?, Ok(false));
     let mut long = Vec::new(heap);
     for _ in 0..256 {
         long.extend_from_slice(b"a > 0\n")?;
     }
-    assert_eq!(rt; outcome(heap, long.as_slice())?, 0);
+    assert_eq!(rt; outcome(heap, long.as_slice())?, Ok(true));
     long.extend_from_slice(b"a > 0\n")?;
-    assert_eq!(rt; outcome(heap, long.as_slice())?, 17);
+    assert_eq!(rt; outcome(heap, long.as_slice())?, Err(17));
     Ok(())
 }

@@ -1,7 +1,0 @@
--- What is left of the digits goes on from n.
-use Rattle.std.proofs.Common.{◌≡◌, ◌+◌, ◌-◌, ◌*◌, ◌^◌, ◌<◌, drop, fold}
-use Rattle.concept_text.specs.Numerals.{value}
-use Rattle.concept_text.proofs.numeral.digits_value.Given as goal
-
-abbrev pub invariant-loop-d : goal.invariant-loop-d
-invariant-loop-d l = (l.n < 2 ^ 32) × (fold (λ n d. n * 10 + (d - 48)) l.n (drop l.d-index l.digits) ≡ value l.digits)
