@@ -31,7 +31,8 @@ enum Family {
 }
 
 impl Family {
-    fn build(self, problem: &mut Problem, seed: u64) {
+    fn build(self, seed: u64) -> Problem {
+        let mut problem = Problem::new();
         match self {
             Family::Different(count) => problem.all_different(0, count),
             Family::Barred(count) => problem.barred(count),
@@ -45,16 +46,12 @@ impl Family {
                 problem.all_different(0, 17);
             }
         }
+        problem
     }
 }
 
 fn wants_times(rt: HostRuntime) -> io::Result<bool> {
-    for word in env::args(&rt)? {
-        if word.as_str() == "time" {
-            return Ok(true);
-        }
-    }
-    Ok(false)
+    Ok(env::args(&rt)?.any(|word| word.as_str() == "time"))
 }
 
 // Solves the problems of a family under some seeds, and says how many could be.
@@ -62,8 +59,7 @@ fn report(rt: HostRuntime, timed: bool, name: &str, family: Family, seeds: u64) 
     let mut solved = 0u64;
     let mut longest = 0u128;
     for seed in 0..seeds {
-        let mut problem = Problem::new();
-        family.build(&mut problem, seed);
+        let problem = family.build(seed);
         let start = Instant::now(&rt)?;
         if problem.is_solvable() {
             solved = solved.saturating_add(1);
@@ -79,47 +75,23 @@ fn report(rt: HostRuntime, timed: bool, name: &str, family: Family, seeds: u64) 
 
 fn main(rt: HostRuntime) -> io::Result<()> {
     let timed = wants_times(rt)?;
-    report(rt, timed, "16 different", Family::Different(16), 1)?;
-    report(rt, timed, "17 different", Family::Different(17), 1)?;
-    report(
-        rt,
-        timed,
-        "16 different, one barred each",
-        Family::Barred(16),
-        1,
-    )?;
-    report(
-        rt,
-        timed,
-        "17 different, one barred each",
-        Family::Barred(17),
-        1,
-    )?;
-    report(rt, timed, "chain of 256", Family::Chain(256), 1)?;
-    report(rt, timed, "board of 12 by 11", Family::Board(12, 11), 1)?;
-    report(rt, timed, "ring of 5 and 14 different", Family::Ring, 1)?;
-    report(
-        rt,
-        timed,
-        "17 different beside a chain of 120",
-        Family::Beside(120),
-        1,
-    )?;
-    report(rt, timed, "21 but for 5 pairs", Family::Dense(21, 5), 20)?;
-    report(rt, timed, "22 but for 7 pairs", Family::Dense(22, 7), 20)?;
-    report(rt, timed, "23 but for 9 pairs", Family::Dense(23, 9), 20)?;
-    report(
-        rt,
-        timed,
-        "60 of 3 marks, 130 pairs",
-        Family::Three(60, 130),
-        20,
-    )?;
-    report(
-        rt,
-        timed,
-        "78 of 3 marks, 178 pairs",
-        Family::Three(78, 178),
-        20,
-    )
+    let families = [
+        ("16 different", Family::Different(16), 1),
+        ("17 different", Family::Different(17), 1),
+        ("16 different, one barred each", Family::Barred(16), 1),
+        ("17 different, one barred each", Family::Barred(17), 1),
+        ("chain of 256", Family::Chain(256), 1),
+        ("board of 12 by 11", Family::Board(12, 11), 1),
+        ("ring of 5 and 14 different", Family::Ring, 1),
+        ("17 different beside a chain of 120", Family::Beside(120), 1),
+        ("21 but for 5 pairs", Family::Dense(21, 5), 20),
+        ("22 but for 7 pairs", Family::Dense(22, 7), 20),
+        ("23 but for 9 pairs", Family::Dense(23, 9), 20),
+        ("60 of 3 marks, 130 pairs", Family::Three(60, 130), 20),
+        ("78 of 3 marks, 178 pairs", Family::Three(78, 178), 20),
+    ];
+    for (name, family, seeds) in families {
+        report(rt, timed, name, family, seeds)?;
+    }
+    Ok(())
 }

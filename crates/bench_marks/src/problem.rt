@@ -1,47 +1,53 @@
 // A problem for `solve`, put together row by row.
+use arrayvec::ArrayVec;
 use domain::lists::{MOST_ROWS, MOST_VARIABLES};
 use domain::{Domain, Outcome, Predicate, Row};
 use marks::Marks;
 
 #[derive(Drop)]
 pub struct Problem {
-    rows: [Row; MOST_ROWS],
-    few: usize,
+    rows: ArrayVec<Row, MOST_ROWS>,
 }
 
-// The next number of a generator.
-fn next(state: u64) -> u64 {
-    state
-        .wrapping_mul(6_364_136_223_846_793_005)
-        .wrapping_add(1_442_695_040_888_963_407)
+// A generator of numbers.
+#[derive(Drop)]
+struct Draws(u64);
+
+impl Draws {
+    fn new(seed: u64) -> Draws {
+        let mut draws = Draws(seed);
+        draws.step();
+        draws
+    }
+
+    fn step(&mut self) {
+        self.0 = self
+            .0
+            .wrapping_mul(6_364_136_223_846_793_005)
+            .wrapping_add(1_442_695_040_888_963_407);
+    }
+
+    // The next number below `most`; 0 where there is none.
+    fn below(&mut self, most: usize) -> usize {
+        self.step();
+        ((self.0 >> 33) % (most as u64).max(1)) as usize
+    }
 }
 
 fn row(form: u32, constant: i32, first: usize, second: usize) -> Row {
-    Row {
-        predicate: Predicate {
-            kind: 0,
-            form,
-            constant,
-        },
-        first,
-        second,
-    }
+    Row::new(Predicate::new(0, form, constant), first, second)
 }
 
 impl Problem {
     pub fn new() -> Problem {
         Problem {
-            rows: [row(3, 0, 0, 0); MOST_ROWS],
-            few: 0,
+            rows: ArrayVec::new(),
         }
     }
 
     // Adds a row; one past the most that `solve` takes is left out.
     fn push(&mut self, row: Row) {
-        if self.few < MOST_ROWS {
-            self.rows[self.few] = row;
-            self.few += 1;
-        }
+        let _ = self.rows.try_push(row);
     }
 
     fn differ(&mut self, v: usize, w: usize) {
@@ -51,11 +57,8 @@ impl Problem {
     pub fn is_solvable(&self) -> bool {
         let mut values = [0; MOST_VARIABLES];
         let kinds = [0; MOST_VARIABLES];
-        if self.few > MOST_ROWS {
-            return false;
-        }
         matches!(
-            Marks.solve(&kinds, &self.rows[0..self.few], &mut values),
+            Marks.solve(&kinds, &self.rows, &mut values),
             Ok(Outcome::Solved)
         )
     }
@@ -107,14 +110,12 @@ impl Problem {
 
     // A pair of variables is left out where the generator says so.
     pub fn dense(&mut self, count: usize, missing: usize, seed: u64) {
-        let mut state = next(seed);
+        let mut draws = Draws::new(seed);
         let mut pairs = count.wrapping_mul(count) / 2;
         let mut left = missing;
         for v in 0..count {
             for w in 0..v {
-                state = next(state);
-                let draw = (state >> 33) % (pairs as u64).max(1);
-                if draw < left as u64 {
+                if draws.below(pairs) < left {
                     left = left.saturating_sub(1);
                 } else {
                     self.differ(w, v);
@@ -125,18 +126,15 @@ impl Problem {
     }
 
     pub fn three(&mut self, count: usize, pairs: usize, seed: u64) {
-        let mut state = next(seed);
+        let mut draws = Draws::new(seed);
         for v in 0..count {
             self.push(row(1, 7, v, 0));
         }
-        let most = (count as u64).max(1);
         for _ in 0..pairs {
-            state = next(state);
-            let v = (state >> 33) % most;
-            state = next(state);
-            let w = (state >> 33) % most;
+            let v = draws.below(count);
+            let w = draws.below(count);
             if v != w {
-                self.differ(v as usize, w as usize);
+                self.differ(v, w);
             }
         }
     }

@@ -4,8 +4,8 @@
 
 use domain::lists::{MOST_ROWS, MOST_VARIABLES};
 use domain::{Domain, Outcome, Predicate, Row};
-use std::env;
 use std::time::Instant;
+use std::{array, env};
 use tenths::Tenths;
 
 // How often each system is solved.
@@ -13,11 +13,7 @@ const REPEATS: u32 = 20;
 
 // Variable i + 1 is above variable i, from the last pair to the first, so that each round raises one more.
 fn chain() -> [Row; MOST_ROWS] {
-    let mut rows = [above(0, 0); MOST_ROWS];
-    for (i, row) in rows.iter_mut().enumerate() {
-        *row = above(256usize.saturating_sub(i), 255usize.saturating_sub(i));
-    }
-    rows
+    array::from_fn(|i| above(256usize.saturating_sub(i), 255usize.saturating_sub(i)))
 }
 
 // The chain, closed to a cycle by its last row.
@@ -29,36 +25,18 @@ fn cycle() -> [Row; MOST_ROWS] {
 
 // The variable at `high` is above that at `low`.
 fn above(high: usize, low: usize) -> Row {
-    Row {
-        predicate: Predicate {
-            kind: 0,
-            form: 4,
-            constant: 0,
-        },
-        first: high,
-        second: low,
-    }
+    Row::new(Predicate::new(0, 4, 0), high, low)
 }
 
 // Solves the rows over all variables, and tells whether there is a choice.
 fn has_choice(rows: &[Row]) -> bool {
     let mut values = [0; MOST_VARIABLES];
-    match Tenths.solve(&[0; MOST_VARIABLES], rows, &mut values) {
-        Ok(Outcome::Solved) => true,
-        Ok(Outcome::Unsolvable) => false,
-        Err(_) => false,
-    }
+    Tenths.solve(&[0; MOST_VARIABLES], rows, &mut values) == Ok(Outcome::Solved)
 }
 
 // How many of the repeated solves found a choice.
-fn solved(rows: &[Row]) -> u32 {
-    let mut count: u32 = 0;
-    for _ in 0..REPEATS {
-        if has_choice(rows) {
-            count = count.wrapping_add(1);
-        }
-    }
-    count
+fn solved(rows: &[Row]) -> usize {
+    (0..REPEATS).filter(|_| has_choice(rows)).count()
 }
 
 fn measure(rt: &HostRuntime, name: &str, rows: &[Row], timed: bool) -> anyhow::Result<()> {
@@ -74,13 +52,7 @@ fn measure(rt: &HostRuntime, name: &str, rows: &[Row], timed: bool) -> anyhow::R
 }
 
 fn wants_time(rt: &HostRuntime) -> anyhow::Result<bool> {
-    let mut timed = false;
-    for word in env::args(rt)? {
-        if word.as_str() == "time" {
-            timed = true;
-        }
-    }
-    Ok(timed)
+    Ok(env::args(rt)?.any(|word| word.as_str() == "time"))
 }
 
 fn main(rt: HostRuntime) -> anyhow::Result<()> {

@@ -1,12 +1,11 @@
 -- From a choice for the variables to one for their roots, and back.
-use Rattle.std.proofs.Common.{◌≡◌, ℕ, zero, suc, ◌-◌, ◌/◌, ◌%◌, ◌^◌, ◌<◌, ◌≤◌, true, not, eqb, List, length, get_or, take, sym, refl, ap, ◌∙◌, subst, inl, inr, pow-suc, arith}
+use Rattle.std.proofs.Common.{◌≡◌, ℕ, zero, suc, ◌/◌, ◌%◌, ◌^◌, ◌<◌, true, not, eqb, List, length, get_or, sym, refl, ap, ◌∙◌, subst, inl, inr, pow-suc, arith}
 use lib.Count.{count_trailing_zeros, under}
-use Rattle.std.proofs.lemmas.List.{get_or-take, length-take}
 use Rattle.std.proofs.lemmas.Bool.{cases_eq, eqb-true, eqb-false, eq-eqb, ne_eqb, cond-true, cond-false, not-true, not_from_false}
 use Rattle.domain.specs.declared.predicate.Row.{Row}
 use Rattle.marks.specs.declared.pair.Pair.{Pair}
 use Rattle.marks.specs.Marks.{has}
-use Rattle.marks.specs.Choices.{Fits, Apart, Listed, Settled, set_of, nth_pair}
+use Rattle.marks.specs.Choices.{Hopeless, Apart, Settled, set_of, nth_pair}
 use Rattle.marks.specs.Rows.{nth_row, two, Ready, Allowed}
 use Rattle.marks.specs.Joins.{root_of, Equal, Rooted, Joined, Gathered, Unequal, Paired}
 use Rattle.marks.proofs.Sets.{has_zero, has_suc}
@@ -53,63 +52,37 @@ module _ (sets : List ℕ) (rows : List Row) (f : ℕ → ℕ) (a : Allowed sets
       eqb-false _ _ (not-true _ (sym (two_unequal (nth_row rows i) _ _ e) ∙ a.kept i l))
       (rooted _ (ready i l).first ∙ same ∙ sym (rooted _ ((ready i l).second (λ k. omega arith) (λ k. omega arith))))
 
--- the pairs that were listed
-module _ (rows : List Row) (roots : List ℕ) (n : ℕ) (pairs : List Pair) (few : ℕ) (p : Paired rows roots n pairs few) (small : n ≤ 256) where
-  abbrev front : List Pair
-  front = take (few - 0) pairs
-
-  front_long : length front ≡ few
-  front_long = let k = length-take (few - 0) pairs in let s = p.size in let w = p.within in omega arith
-
-  front_at : (j : ℕ) → j < few → nth_pair front j ≡ nth_pair pairs j
-  front_at j l = get_or-take (few - 0) pairs j _ (omega arith)
-
-  pub front_listed : Listed 512 (take (few - 0) pairs)
-  front_listed j l =
-      let lj : j < few = let k = front_long in omega arith in
-      subst (λ q. (q.left < 512) × (q.right < 512)) (sym (front_at j lj)) (p.listed j lj)
-
-  pub front_apart : (f : ℕ → ℕ) → Unequal rows roots n f → Apart (take (few - 0) pairs) f
-  front_apart f une j l =
-      let lj : j < few = let k = front_long in omega arith in
-      subst (λ q. f q.left ≡ f q.right → ⊥) (sym (front_at j lj)) (p.sound f une j lj)
-
-  pub front_whole : (f : ℕ → ℕ) → Apart (take (few - 0) pairs) f → Unequal rows roots n f
-  front_whole f apart =
-      p.whole f (λ j lj. subst (λ q. f q.left ≡ f q.right → ⊥) (front_at j lj) (apart j (let k = front_long in omega arith)))
-
 -- any choice from settled sets fits, so the lowest marks do
 module _ (before : List ℕ) (pairs : List Pair) (after : List ℕ) (s : Settled before pairs after) (long : length after ≡ 512) where
   pub lowest_of : (u : ℕ) → u < 512 → (count_trailing_zeros 16 (set_of after u) < 16) × (has (set_of after u) (count_trailing_zeros 16 (set_of after u)) ≡ true)
   lowest_of u l = let f = s.full u (omega arith) in lowest_mark (set_of after u) f.0 f.1
 
-  pub lowest_apart : Listed 512 pairs → Apart pairs (λ u. count_trailing_zeros 16 (set_of after u))
-  lowest_apart ls i l e =
+  pub lowest_apart : Apart pairs (λ u. count_trailing_zeros 16 (set_of after u))
+  lowest_apart i l e =
       shared_not after (nth_pair pairs i) (count_trailing_zeros 16 (set_of after (nth_pair pairs i).left)) (s.disjoint i l)
-      (lowest_of (nth_pair pairs i).left (ls i l).0).1
-      (subst (λ x. has (set_of after (nth_pair pairs i).right) x ≡ true) (sym e) (lowest_of (nth_pair pairs i).right (ls i l).1).1)
+      (lowest_of (nth_pair pairs i).left (nth_pair pairs i).left_listed).1
+      (subst (λ x. has (set_of after (nth_pair pairs i).right) x ≡ true) (sym e) (lowest_of (nth_pair pairs i).right (nth_pair pairs i).right_listed).1)
 
-module _ (sets : List ℕ) (rows : List Row) (roots joined : List ℕ) (pairs : List Pair) (few : ℕ)
-    (j : Joined rows (length rows) roots) (g : Gathered sets roots 512 joined) (p : Paired rows roots (length rows) pairs few)
-    (ready : Ready rows) (small : length rows ≤ 256) where
+module _ (sets : List ℕ) (rows : List Row) (roots joined : List ℕ) (pairs : List Pair)
+    (j : Joined rows (length rows) roots) (g : Gathered sets roots 512 joined) (p : Paired rows roots (length rows) pairs) (ready : Ready rows) where
   -- no choice for the roots, no choice for the variables
-  pub none_allowed : ((f : ℕ → ℕ) → Fits joined (take (few - 0) pairs) f → ⊥) → (f : ℕ → ℕ) → Allowed sets rows f → ⊥
+  pub none_allowed : Hopeless joined pairs → (f : ℕ → ℕ) → Allowed sets rows f → ⊥
   none_allowed none f a =
       let rooted = j.rooted f (allowed_equal sets rows f a) in
-      none f (record {
+      none.none f (record {
         within = g.within f rooted a.within;
-        apart = front_apart rows roots (length rows) pairs few p small f (allowed_unequal sets rows f a roots rooted ready);
+        apart = p.sound f (allowed_unequal sets rows f a roots rooted ready);
       })
 
   -- the marks of the roots serve the variables
   pub some_allowed :
-      (after choice : List ℕ) → length sets ≡ 512 → length after ≡ 512 → Settled joined (take (few - 0) pairs) after
+      (after choice : List ℕ) → length sets ≡ 512 → length after ≡ 512 → Settled joined pairs after
       → ((v : ℕ) → v < 512 → get_or choice v 0 ≡ count_trailing_zeros 16 (set_of after (root_of roots v))) → Allowed sets rows (λ v. get_or choice v 0)
   some_allowed after choice long long' s is = record {
     within = λ v l.
         let lv : v < 512 = omega arith in
         let lr = j.listed v lv in
-        let low = lowest_of joined (take (few - 0) pairs) after s long' (root_of roots v) lr in
+        let low = lowest_of joined pairs after s long' (root_of roots v) lr in
         subst (λ x. (x < 16) × (has (set_of sets v) x ≡ true)) (sym (is v lv))
         (low.0, g.narrow v _ lv low.0 (s.narrowed (root_of roots v) _ low.0 low.1));
     kept = λ i l.
@@ -117,7 +90,6 @@ module _ (sets : List ℕ) (rows : List Row) (roots joined : List ℕ) (pairs : 
         two_from (nth_row rows i) _ _
         (λ e. is _ (ready i l).first ∙ ap (λ u. count_trailing_zeros 16 (set_of after u)) (j.merged i l e)
         ∙ sym (is _ (second (λ k. omega arith) (λ k. omega arith))))
-        (λ e same. front_whole rows roots (length rows) pairs few p small (λ u. count_trailing_zeros 16 (set_of after u))
-        (lowest_apart joined (take (few - 0) pairs) after s long' (front_listed rows roots (length rows) pairs few p small)) i l e
+        (λ e same. p.whole (λ u. count_trailing_zeros 16 (set_of after u)) (lowest_apart joined pairs after s long') i l e
         (sym (is _ (ready i l).first) ∙ same ∙ is _ (second (λ k. omega arith) (λ k. omega arith))));
   }

@@ -1,11 +1,12 @@
 -- Growing a clique, member by member.
-use Rattle.std.proofs.Common.{◌≡◌, ℕ, ◌+◌, ◌<◌, ◌≤◌, true, cond, eqb, ◌⊎◌, List, length, get_or, Some, Option, sym, refl, ap, ◌∙◌, subst, inl, inr, arith}
+use Rattle.std.proofs.Common.{◌≡◌, ℕ, ◌+◌, ◌<◌, ◌≤◌, true, cond, eqb, ◌⊎◌, List, length, get_or, set, Some, Option, sym, refl, ap, ◌∙◌, subst, inl, inr, arith}
 use lib.Bits.{bit_or, or_lt}
 use lib.Count.{ones}
+use Rattle.std.proofs.lemmas.List.{get_or-set_same, get_or-set_other}
 use Rattle.std.proofs.lemmas.Bool.{cases_eq, eq-eqb, ne_eqb, cond-true, cond-false, or_left, or_right}
 use Rattle.marks.specs.declared.pair.Pair.{Pair}
 use Rattle.marks.specs.Marks.{has}
-use Rattle.marks.specs.Choices.{Fits, set_of}
+use Rattle.marks.specs.Choices.{Hopeless, set_of}
 use Rattle.marks.specs.Cliques.{Differ, Members, Near, Nearer, Candidate}
 use Rattle.marks.proofs.Sets.{has_or}
 use Rattle.marks.proofs.Pigeons.{no_more_than_ones}
@@ -77,10 +78,12 @@ module _ (sets : List ℕ) (pairs : List Pair) (member : ℕ → ℕ) (size unio
 -- more members than marks: no choice
 pub crowd_refuted :
     (sets : List ℕ) (pairs : List Pair) (member : ℕ → ℕ) (size union : ℕ) → Members sets pairs member (size + 1) union → ones union ≤ size
-    → (f : ℕ → ℕ) → Fits sets pairs f → ⊥
-crowd_refuted sets pairs member size union g few f fits =
-    let most = no_more_than_ones union (size + 1) (λ i. f (member i)) g.small (g.inside f fits.within) (λ i j l m. g.apart i j l m f fits.apart) in
-    omega arith
+    → Hopeless sets pairs
+crowd_refuted sets pairs member size union g few = record {
+  none = λ f fits.
+      let most = no_more_than_ones union (size + 1) (λ i. f (member i)) g.small (g.inside f fits.within) (λ i j l m. g.apart i j l m f fits.apart) in
+      omega arith;
+}
 
 -- what may become the next member
 module _ (near : List ℕ) (size : ℕ) where
@@ -89,3 +92,15 @@ module _ (near : List ℕ) (size : ℕ) where
 
   pub candidate_kept : (old next : Option ℕ) → next ≡ old → Candidate near size old → Candidate near size next
   candidate_kept old next e c u k = c u (sym e ∙ k)
+
+-- one more, for the same reason
+pub nearer_more :
+    (reason : ℕ → Type 0) (x size : ℕ) (before near : List ℕ) → Nearer reason size before near → length near ≡ 512 → get_or near x 0 ≡ size → x < 512
+    → reason x → Nearer reason size before (set near x (size + 1))
+nearer_more reason x size before near n long at l r w lw = elim (cases_eq w x) [
+  | inl e ↦ elim (n w lw) [
+    | inl same ↦ inr (ap (λ u. get_or (set near x (size + 1)) u 0) e ∙ get_or-set_same near x (size + 1) 0 (omega arith), sym same ∙ ap (λ u. get_or near u 0) e ∙ at, subst reason (sym e) r)
+    | inr past ↦ let now = ap (λ u. get_or near u 0) e ∙ at in absurd (omega (arith, past.0))
+  ]
+  | inr ne ↦ subst (λ n. (n ≡ get_or before w 0) ⊎ ((n ≡ size + 1) × (get_or before w 0 ≡ size) × reason w)) (sym (get_or-set_other near x w (size + 1) 0 ne)) (n w lw)
+]

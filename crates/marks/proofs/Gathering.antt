@@ -1,24 +1,27 @@
 -- Gathering the sets of joined variables.
-use Rattle.std.proofs.Common.{◌≡◌, ℕ, ◌+◌, ◌<◌, true, List, length, set, sym, ap, ◌∙◌, subst, inl, inr, arith, below_more}
+use Rattle.std.proofs.Common.{◌≡◌, ℕ, ◌+◌, ◌<◌, true, List, length, get_or, replicate, set, sym, ap, ◌∙◌, subst, inl, inr, arith, below_more}
 use lib.Bits.{bit_and, and_le_l}
-use Rattle.std.proofs.lemmas.List.{get_or-set_same, get_or-set_other, length-set}
+use Rattle.std.proofs.lemmas.List.{get_or-set_same, get_or-set_other, get_or-replicate, length-set, length-replicate}
 use Rattle.std.proofs.lemmas.Bool.{cases_eq, and_parts}
 use Rattle.marks.specs.Marks.{has}
 use Rattle.marks.specs.Choices.{Within, set_of}
-use Rattle.marks.specs.Rows.{Blank}
 use Rattle.marks.specs.Joins.{root_of, Rooted, Gathered}
 use Rattle.marks.proofs.Sets.{has_all, has_not_empty}
 use Rattle.marks.proofs.Masking.{has_less_same, has_less_before, has_less_after}
 
 module _ (sets roots : List ℕ) (size : length sets ≡ 512) where
-  pub gathered_none : (joined : List ℕ) → length joined ≡ 512 → Blank joined → Gathered sets roots 0 joined
-  gathered_none joined long blank = record {
-    size = long;
-    full = λ v l. let e = blank v (omega arith) in (omega arith, omega arith);
-    within = λ f _ within u l. let in_set = within u (omega arith) in
-        (in_set.0, ap (λ s. has s (f u)) (blank u (omega arith)) ∙ has_all (f u) in_set.0);
+  pub gathered_none : Gathered sets roots 0 (replicate 512 65535)
+  gathered_none = record {
+    size = length-replicate {A = ℕ} 512 65535;
+    full = λ v l. let e = blank v (let k = length-replicate {A = ℕ} 512 65535 in omega arith) in (omega arith, omega arith);
+    within = λ f _ within u l. let lu : u < 512 = let k = length-replicate {A = ℕ} 512 65535 in omega arith in
+        let in_set = within u (omega arith) in
+        (in_set.0, ap (λ s. has s (f u)) (blank u lu) ∙ has_all (f u) in_set.0);
     narrow = λ v x l. absurd (omega arith);
   }
+    where
+      blank : (v : ℕ) → v < 512 → get_or (replicate {A = ℕ} 512 65535) v 0 ≡ 65535
+      blank v l = get_or-replicate {A = ℕ} 512 v 65535 0 l
 
   module _ (n : ℕ) (joined : List ℕ) (g : Gathered sets roots n joined) (l : n < 512) (lr : root_of roots n < 512) where
     lw : root_of roots n < length joined

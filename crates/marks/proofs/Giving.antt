@@ -1,12 +1,28 @@
 -- Giving a variable a mark, pair by pair.
-use Rattle.std.proofs.Common.{◌≡◌, ℕ, ◌+◌, ◌<◌, ◌≤◌, Bool, true, false, not, eqb, List, length, set, Some, MatchBool, sym, refl, ap, ◌∙◌, subst, inl, inr, arith, below_more}
+use Rattle.std.proofs.Common.{◌≡◌, ℕ, ◌+◌, ◌<◌, ◌≤◌, true, false, not, ◌&&◌, ◌==◌, ◌≢◌, eqb, List, length, set, Some, None, sym, refl, ap, ◌∙◌, subst, inl, inr, arith, below_more}
 use Rattle.std.proofs.lemmas.List.{get_or-set_same, get_or-set_other, length-set}
-use Rattle.std.proofs.lemmas.Bool.{both_ways, cases_Bool, cases_eq, and_parts, and_from, eqb-true, eqb-false, eq-eqb, ne_eqb, not-false, not-true, not_from_false}
+use Rattle.std.proofs.lemmas.Bool.{both_ways, cases_Bool, cases_eq, and_parts, and_from, eqb-true, eq-eqb, ne_eqb, not-true, not_from_false}
 use Rattle.marks.specs.declared.pair.Pair.{Pair}
 use Rattle.marks.specs.Marks.{has}
-use Rattle.marks.specs.Choices.{Fits, Within, Full, Narrowed, Given, Never, Forbidden, Parted, Other, set_of, nth_pair, Listed}
+use Rattle.marks.specs.Choices.{Fits, Within, Full, Narrowed, Given, Never, Rest, NoneBut, Other, set_of, nth_pair}
 use Rattle.marks.proofs.Sets.{has_not_empty}
 use Rattle.marks.proofs.Sharing.{not_shared}
+
+-- v has lost the mark b, and the other sets are as they were
+pub record Forbidden (before : List ℕ) (v b : ℕ) (after : List ℕ) : Type 0 where
+  pub size : length after ≡ length before
+  pub others : (w : ℕ) → (w ≢ v) → set_of after w ≡ set_of before w
+  pub lost : (x : ℕ) → x < 16 → has (set_of after v) x ≡ (has (set_of before v) x && not (x == b))
+  pub small : set_of after v < 65536
+
+-- where v has the mark b and is one of the pair, the other has lost it
+pub record Parted (before : List ℕ) (p : Pair) (v b : ℕ) (after : List ℕ) : Type 0 where
+  pub size : length after ≡ length before
+  pub narrowed : Narrowed before after
+  pub full : Full after
+  pub kept : (f : ℕ → ℕ) → Within before f → f v ≡ b → (f p.left ≢ f p.right) → Within after f
+  pub right : p.left ≡ v → has (set_of after p.right) b ≡ false
+  pub left : p.right ≡ v → has (set_of after p.left) b ≡ false
 
 -- what stands once the pairs below n have been looked at
 pub record Giving (before : List ℕ) (pairs : List Pair) (v b n : ℕ) (sets : List ℕ) : Type 0 where
@@ -74,36 +90,14 @@ module _ (before : List ℕ) (pairs : List Pair) (v b : ℕ) where
         → Never before pairs v b
     giving_stuck l stuck f fits e = stuck f (g.kept f fits e) e (fits.apart n l)
 
-  -- what is given from sets that were narrowed first
-  pub giving_after :
-      (sets after : List ℕ) (n : ℕ) → Giving before pairs v b 0 sets → Giving sets pairs v b n after → Giving before pairs v b n after
-  giving_after sets after n g h = record {
-    size = h.size ∙ g.size;
-    narrowed = λ w x lx t. g.narrowed w x lx (h.narrowed w x lx t);
-    full = h.full;
-    kept = λ f fits e. h.kept f (record { within = g.kept f fits e; apart = fits.apart }) e;
-    alone = h.alone;
-    lost = h.lost;
-  }
-
-  pub giving_on : (sets : List ℕ) → Giving before pairs v b 0 sets → Giving sets pairs v b 0 sets
-  giving_on sets g = record {
-    size = refl;
-    narrowed = λ w x lx t. t;
-    full = g.full;
-    kept = λ f fits e. fits.within;
-    alone = g.alone;
-    lost = g.lost;
-  }
-
   pub giving_all :
-      (after : List ℕ) (n : ℕ) → Giving before pairs v b n after → length pairs ≤ n → Listed 512 pairs → length before ≡ 512
+      (after : List ℕ) (n : ℕ) → Giving before pairs v b n after → length pairs ≤ n → length before ≡ 512
       → Given before pairs v b after
-  giving_all after n g all ls size = record {
+  giving_all after n g all size = record {
     narrowed = g.narrowed;
     full = g.full;
     kept = λ f fits e. record { within = g.kept f fits e; apart = fits.apart };
-    disjoint = λ i l t. not_shared after (nth_pair pairs i) (g.full _ (let k = (ls i l).0 in let z = g.size in omega arith)).1
+    disjoint = λ i l t. not_shared after (nth_pair pairs i) (g.full _ (let k = (nth_pair pairs i).left_listed in let z = g.size in omega arith)).1
         (λ x lx hl hr. elim t [
           | inl e ↦ both_ways (has (set_of after (nth_pair pairs i).right) b) ((g.lost i (omega arith)).0 e)
               (subst (λ y. has (set_of after (nth_pair pairs i).right) y ≡ true) (g.alone x lx (subst (λ w. has (set_of after w) x ≡ true) e hl)) hr)
@@ -144,40 +138,61 @@ module _ (before after : List ℕ) (v b w : ℕ) (fo : Forbidden before w b afte
     | inr n ↦ subst (λ s. (0 < s) × (s < 65536)) (sym (fo.others u n)) (full u (let k = fo.size in omega arith))
   ]
 
-by_when : {P Q : Type 0} (r : Bool) → (r ≡ true → P) → (r ≡ false → Q) → MatchBool r P Q
-by_when true p q = p refl
-by_when false p q = q refl
+-- where nothing is left without b, there was nothing but b
+pub none_but :
+    (set b rest : ℕ) → ((x : ℕ) → x < 16 → has rest x ≡ (has set x && not (x == b))) → rest ≡ 0 → NoneBut set b
+none_but set b rest lost e x lx h = elim (cases_eq x b) [
+  | inl k ↦ k
+  | inr n ↦ absurd (has_not_empty rest x (lost x lx ∙ and_from _ _ h (not_from_false _ (ne_eqb x b n))) e)
+]
 
 -- the other of the pair, w, loses the mark b of v
-module _ (before after : List ℕ) (p : Pair) (v b w : ℕ) (r : Bool) where
-  pub parted :
-      Forbidden before w b after → r ≡ not (eqb (set_of after w) 0) → Full before → w < length before → b < 16
-      → ((f : ℕ → ℕ) → (f p.left ≡ f p.right → ⊥) → f w ≡ f v → ⊥) → (p.left ≡ v → p.right ≡ w) → (p.right ≡ v → p.left ≡ w)
-      → MatchBool r (Parted before p v b after)
-      ((f : ℕ → ℕ) → Within before f → f v ≡ b → (f p.left ≡ f p.right → ⊥) → ⊥)
-  parted fo is full lw lb apart right left =
-      by_when r
-      (λ e. let ne = eqb-false (set_of after w) 0 (not-true _ (sym is ∙ e)) in record {
-        size = fo.size;
-        narrowed = forbidden_narrowed before after v b w fo;
-        full = forbidden_full before after v b w fo full (omega arith);
-        kept = λ f within fv ne. forbidden_kept before after v b w fo f within fv (apart f ne);
-        right = λ h. subst (λ u. has (set_of after u) b ≡ false) (sym (right h)) (forbidden_gone before after v b w fo lb);
-        left = λ h. subst (λ u. has (set_of after u) b ≡ false) (sym (left h)) (forbidden_gone before after v b w fo lb);
-      })
-      (λ e f within fv ne.
-      has_not_empty (set_of after w) (f w)
-      (forbidden_kept before after v b w fo f within fv (apart f ne) w (let k = fo.size in omega arith)).1
-      (eqb-true _ 0 (not-false _ (sym is ∙ e))))
+module _ (before : List ℕ) (p : Pair) (v b w : ℕ) (o : Other p v (Some w)) (full : Full before) (lw : w < length before) (lb : b < 16) where
+  -- a choice that keeps the pair apart gives the two different marks
+  apart : (f : ℕ → ℕ) → (f p.left ≡ f p.right → ⊥) → f w ≡ f v → ⊥
+  apart f ne k = elim o [ inl e ↦ ne (ap f e.0 ∙ sym k ∙ sym (ap f e.1)) | inr e ↦ ne (ap f e.1 ∙ k ∙ sym (ap f e.0)) ]
 
-  pub parted_other :
-      Other p v (Some w) → Forbidden before w b after → r ≡ not (eqb (set_of after w) 0) → Full before → w < length before → b < 16
-      → MatchBool r (Parted before p v b after)
-      ((f : ℕ → ℕ) → Within before f → f v ≡ b → (f p.left ≡ f p.right → ⊥) → ⊥)
-  parted_other o fo is full lw lb = elim o [
-    | inl e ↦ parted fo is full lw lb (λ f ne k. ne (ap f e.0 ∙ sym k ∙ sym (ap f e.1))) (λ _. e.1) (λ k. e.0 ∙ sym k ∙ e.1)
-    | inr e ↦ parted fo is full lw lb (λ f ne k. ne (ap f e.1 ∙ k ∙ sym (ap f e.0))) (λ k. e.0 ∙ sym k ∙ e.1) (λ _. e.1)
-  ]
+  pub parted_stuck :
+      NoneBut (set_of before w) b → (f : ℕ → ℕ) → Within before f → f v ≡ b → (f p.left ≡ f p.right → ⊥) → ⊥
+  parted_stuck bare f within e ne = let here = within w lw in apart f ne (bare (f w) here.0 here.1 ∙ sym e)
 
-pub other_listed : (p : Pair) (v w n : ℕ) → Other p v (Some w) → p.left < n → p.right < n → w < n
-other_listed p v w n o l r = elim o [ inl e ↦ subst (λ u. u < n) e.1 r | inr e ↦ subst (λ u. u < n) e.1 l ]
+  module _ (rest : ℕ) (r : Rest (set_of before w) b rest) (small : rest < 65536) where
+    abbrev after : List ℕ
+    after = set before w rest
+
+    is : set_of after w ≡ rest
+    is = get_or-set_same before w rest 0 lw
+
+    forbidden : Forbidden before w b after
+    forbidden = record {
+      size = length-set before w rest;
+      others = λ u n. get_or-set_other before w u rest 0 n;
+      lost = λ x lx. ap (λ s. has s x) is ∙ r.lost x lx;
+      small = subst (λ s. s < 65536) (sym is) small;
+    }
+
+    pub parted_more : Parted before p v b after
+    parted_more = record {
+      size = length-set before w rest;
+      narrowed = forbidden_narrowed before after v b w forbidden;
+      full = forbidden_full before after v b w forbidden full (subst (λ s. 0 < s) (sym is) r.some);
+      kept = λ f within fv ne. forbidden_kept before after v b w forbidden f within fv (apart f ne);
+      right = λ h. gone p.right (elim o [ inl e ↦ e.1 | inr e ↦ e.0 ∙ sym h ∙ e.1 ]);
+      left = λ h. gone p.left (elim o [ inl e ↦ e.0 ∙ sym h ∙ e.1 | inr e ↦ e.1 ]);
+    }
+      where
+        gone : (u : ℕ) → u ≡ w → has (set_of after u) b ≡ false
+        gone u e = subst (λ u. has (set_of after u) b ≡ false) (sym e) (forbidden_gone before after v b w forbidden lb)
+
+pub parted_apart : (sets : List ℕ) (p : Pair) (v b : ℕ) → Full sets → Other p v None → Parted sets p v b sets
+parted_apart sets p v b full o = record {
+  size = refl;
+  narrowed = λ w x lx t. t;
+  full = full;
+  kept = λ f within fv ne. within;
+  right = λ h. absurd (o.0 h);
+  left = λ h. absurd (o.1 h);
+}
+
+pub other_listed : (p : Pair) (v w : ℕ) → Other p v (Some w) → w < 512
+other_listed p v w o = elim o [ inl e ↦ subst (λ u. u < 512) e.1 p.right_listed | inr e ↦ subst (λ u. u < 512) e.1 p.left_listed ]

@@ -3,10 +3,11 @@ use Rattle.std.proofs.Common.{◌≡◌, ℕ, ◌+◌, ◌<◌, eqb, List, lengt
 use Rattle.std.proofs.lemmas.Bool.{cases_eq, eq-eqb, ne_eqb, cond-true, cond-false, cond_both}
 use Rattle.domain.specs.declared.predicate.Row.{Row}
 use Rattle.marks.specs.Rows.{nth_row, Ready}
-use Rattle.marks.specs.Joins.{root_of, Rooted, Joined, Alone, renamed}
+use Rattle.marks.specs.Joins.{root_of, Rooted, Joined, renamed}
 
 module _ (rows : List Row) where
-  pub joined_none : (roots : List ℕ) → length roots ≡ 512 → Alone 512 roots → Joined rows 0 roots
+  -- each variable is its own root
+  pub joined_none : (roots : List ℕ) → length roots ≡ 512 → ((v : ℕ) → v < 512 → root_of roots v ≡ v) → Joined rows 0 roots
   joined_none roots size alone = record {
     size = size;
     listed = λ v l. let e = alone v l in omega arith;

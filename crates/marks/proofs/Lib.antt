@@ -4,6 +4,7 @@ pub mod Fewer
 pub mod Gathering
 pub mod Giving
 pub mod Joining
+pub mod Listing
 pub mod Masking
 pub mod Pairing
 pub mod Picking

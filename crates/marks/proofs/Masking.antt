@@ -1,18 +1,18 @@
 -- Taking marks from the sets, row by row.
-use Rattle.std.proofs.Common.{◌≡◌, ℕ, ◌+◌, ◌<◌, true, ◌&&◌, List, length, get_or, set, sym, ap, ◌∙◌, inl, inr, arith, below_more}
+use Rattle.std.proofs.Common.{◌≡◌, ℕ, ◌+◌, ◌<◌, true, ◌&&◌, List, length, get_or, replicate, set, sym, ap, ◌∙◌, inl, inr, arith, below_more}
 use lib.Bits.{bit_and}
-use Rattle.std.proofs.lemmas.List.{get_or-set_same, get_or-set_other, length-set}
-use Rattle.std.proofs.lemmas.Bool.{cases_eq, and_parts, and_from}
+use Rattle.std.proofs.lemmas.List.{get_or-set_same, get_or-set_other, get_or-replicate, length-set, length-replicate}
+use Rattle.std.proofs.lemmas.Bool.{cases_eq, and_parts, and_from, ne_eqb, cond-false}
 use Rattle.domain.specs.declared.predicate.Row.{Row}
 use Rattle.marks.specs.Marks.{has}
-use Rattle.marks.specs.Rows.{nth_row, one, Masked, Blank}
+use Rattle.marks.specs.Rows.{nth_row, one, Masked}
 use Rattle.marks.proofs.Sets.{has_all, has_and}
 
-pub masked_none : (rows : List Row) (sets : List ℕ) → length sets ≡ 512 → Blank sets → Masked rows 0 sets
-masked_none rows sets size blank = record {
-  size = size;
+pub masked_none : (rows : List Row) → Masked rows 0 (replicate 512 65535)
+masked_none rows = record {
+  size = length-replicate {A = ℕ} 512 65535;
   suits = λ v x lv lx h i l. absurd (omega arith);
-  whole = λ v x lv lx _. ap (λ s. has s x) (blank v lv) ∙ has_all x lx;
+  whole = λ v x lv lx _. ap (λ s. has s x) (get_or-replicate 512 v 65535 0 lv) ∙ has_all x lx;
 }
 
 module _ (sets : List ℕ) (w m : ℕ) (lw : w < length sets) where
@@ -58,3 +58,9 @@ module _ (rows : List Row) (n : ℕ) (sets : List ℕ) (g : Masked rows n sets) 
 
       lw : w < length sets
       lw = let k = g.size in omega arith
+
+-- a row of form 3 or 4 holds of every mark
+pub one_of_other :
+    (r : Row) (x : ℕ) → x < 16 → (r.predicate.form ≡ 1 → ⊥) → (r.predicate.form ≡ 2 → ⊥) → has 65535 x ≡ one r x
+one_of_other r x l n1 n2 =
+    has_all x l ∙ sym (cond-false _ _ _ (ne_eqb r.predicate.form 1 n1) ∙ cond-false _ _ _ (ne_eqb r.predicate.form 2 n2))

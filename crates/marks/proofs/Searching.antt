@@ -1,20 +1,14 @@
 -- One mark after another is tried, and those that fail are never taken.
-use Rattle.std.proofs.Common.{◌≡◌, ℕ, ◌+◌, ◌<◌, ◌≤◌, Bool, true, false, List, length, MatchBool, sym, ap, ◌∙◌, inl, inr, arith}
+use Rattle.std.proofs.Common.{◌≡◌, ℕ, ◌+◌, ◌<◌, ◌≤◌, false, List, length, sym, ap, ◌∙◌, inl, inr, arith}
 use Rattle.std.proofs.lemmas.Bool.{both_ways, cases_eq}
 use Rattle.marks.specs.declared.pair.Pair.{Pair}
 use Rattle.marks.specs.Marks.{has}
-use Rattle.marks.specs.Choices.{Fits, Never, Needless, Given, Alike, set_of}
+use Rattle.marks.specs.Choices.{Fits, Hopeless, Never, Needless, Given, Alike, set_of}
 use Rattle.marks.proofs.Swap.{swapped}
 
 module _ (sets : List ℕ) (pairs : List Pair) (v b : ℕ) where
   pub never_needless : Never sets pairs v b → Needless sets pairs v b
   never_needless never f fits e = absurd (never f fits e)
-
-  pub given_or_needless :
-      (r : Bool) (after : List ℕ) → MatchBool r (Given sets pairs v b after) (Never sets pairs v b)
-      → MatchBool r (Given sets pairs v b after) (Needless sets pairs v b)
-  given_or_needless true after g = g
-  given_or_needless false after n = never_needless n
 
   pub absent_needless : v < length sets → has (set_of sets v) b ≡ false → Needless sets pairs v b
   absent_needless l h = never_needless (λ f fits e. both_ways _ h (ap (has (set_of sets v)) (sym e) ∙ (fits.within v l).1))
@@ -25,8 +19,8 @@ module _ (sets : List ℕ) (pairs : List Pair) (v b : ℕ) where
       (g.0, g.1, let e = g.2 in omega arith)
 
   pub refuted_needless :
-      (after : List ℕ) → Given sets pairs v b after → ((f : ℕ → ℕ) → Fits after pairs f → ⊥) → Needless sets pairs v b
-  refuted_needless after g none = never_needless (λ f fits e. none f (g.kept f fits e))
+      (after : List ℕ) → Given sets pairs v b after → Hopeless after pairs → Needless sets pairs v b
+  refuted_needless after g none = never_needless (λ f fits e. none.none f (g.kept f fits e))
 
   -- with b out of the way, only higher marks are left
   pub next_mark :
@@ -39,5 +33,5 @@ module _ (sets : List ℕ) (pairs : List Pair) (v b : ℕ) where
       ]
 
   pub none_left :
-      v < length sets → 16 ≤ b → ((f : ℕ → ℕ) → Fits sets pairs f → b ≤ f v) → (f : ℕ → ℕ) → Fits sets pairs f → ⊥
-  none_left l high low f fits = let here = low f fits in let mark = (fits.within v l).0 in omega arith
+      v < length sets → 16 ≤ b → ((f : ℕ → ℕ) → Fits sets pairs f → b ≤ f v) → Hopeless sets pairs
+  none_left l high low = record { none = λ f fits. let here = low f fits in let mark = (fits.within v l).0 in omega arith }

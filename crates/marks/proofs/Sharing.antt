@@ -1,12 +1,13 @@
 -- Whether two sets share a mark.
 use Rattle.std.proofs.Common.{◌≡◌, ℕ, ◌<◌, true, false, List, length, sym, ap, ◌∙◌, inl, inr, arith}
+use Rattle.std.specs.List.{count_by}
 use lib.Bits.{bit_and, and_le_l}
-use Rattle.std.proofs.lemmas.Bool.{both_ways, cases_Bool, and_from, and_parts, eqb-true, eq-eqb, ne_eqb, not-false, not_from_true, not_from_false}
+use Rattle.std.proofs.lemmas.Bool.{both_ways, cases_Bool, and_from, and_parts, eqb-true, eq-eqb, not-false, not_from_true}
 use Rattle.marks.specs.declared.pair.Pair.{Pair}
 use Rattle.marks.specs.Marks.{has}
-use Rattle.marks.specs.Choices.{shares, set_of, Narrowed, nth_pair, Listed, Given, Touches}
+use Rattle.marks.specs.Choices.{shares, set_of, Narrowed, no_pair, nth_pair, Given, Touches}
 use Rattle.marks.proofs.Sets.{has_and, empty_zero, none_in_zero}
-use Rattle.marks.proofs.Fewer.{count, fewer}
+use Rattle.marks.proofs.Fewer.{fewer}
 
 pub no_common : (a b x : ℕ) → bit_and a b ≡ 0 → has a x ≡ true → has b x ≡ true → ⊥
 no_common a b x e ha hb =
@@ -27,9 +28,6 @@ module _ (sets : List ℕ) (p : Pair) where
   pub shared_not : (x : ℕ) → shares sets p ≡ false → has (set_of sets p.left) x ≡ true → has (set_of sets p.right) x ≡ true → ⊥
   shared_not x h = no_common _ _ x (unshared h)
 
-  pub is_shared : (bit_and (set_of sets p.left) (set_of sets p.right) ≡ 0 → ⊥) → shares sets p ≡ true
-  is_shared n = not_from_false _ (ne_eqb _ 0 n)
-
   pub is_unshared : bit_and (set_of sets p.left) (set_of sets p.right) ≡ 0 → shares sets p ≡ false
   is_unshared e = not_from_true _ (eq-eqb _ 0 e)
 
@@ -48,10 +46,10 @@ module _ (before after : List ℕ) (n : Narrowed before after) (p : Pair) (small
 
 -- once v has a mark, fewer pairs share one
 pub fewer_shared :
-    (before after : List ℕ) (pairs : List Pair) (v b i : ℕ) → Given before pairs v b after → Listed 512 pairs → length after ≡ 512
+    (before after : List ℕ) (pairs : List Pair) (v b i : ℕ) → Given before pairs v b after → length after ≡ 512
     → i < length pairs → Touches (nth_pair pairs i) v → shares before (nth_pair pairs i) ≡ true
-    → count (shares after) pairs < count (shares before) pairs
-fewer_shared before after pairs v b i g ls size l t s =
-    fewer (shares after) (shares before) (record { left = 0; right = 0 }) pairs i
-    (λ j lj. shared_before before after g.narrowed (nth_pair pairs j) (g.full (nth_pair pairs j).left (let k = (ls j lj).0 in omega arith)).1)
+    → count_by (shares after) pairs < count_by (shares before) pairs
+fewer_shared before after pairs v b i g size l t s =
+    fewer (shares after) (shares before) no_pair pairs i
+    (λ j lj. shared_before before after g.narrowed (nth_pair pairs j) (g.full (nth_pair pairs j).left (let k = (nth_pair pairs j).left_listed in omega arith)).1)
     l (g.disjoint i l t) s

@@ -1,8 +1,8 @@
 -- From choices of values for the rows to choices of marks from the sets, and back.
-use Rattle.std.proofs.Common.{◌≡◌, ℕ, ◌<◌, ◌≤◌, Bool, true, false, cond, not, ◌&&◌, ◌||◌, eqb, ltb, ◌⊎◌, List, length, get_or, take, ℤ, pos, negsuc, sym, refl, ap, ◌∙◌, subst, inl, inr, arith}
+use Rattle.std.proofs.Common.{◌≡◌, ℕ, ◌<◌, ◌≤◌, Bool, true, false, cond, not, ◌&&◌, ◌||◌, eqb, ltb, ◌⊎◌, List, length, get_or, ℤ, pos, negsuc, sym, refl, ap, ◌∙◌, subst, inl, inr, arith}
 use lib.Signed.{le_z}
-use Rattle.std.proofs.ByRecursion.{All-get_or, All-from_get_or}
-use Rattle.std.proofs.lemmas.List.{get_or-take, get_or_past, length-take}
+use Rattle.std.proofs.lemmas.List.Elements.{All-get_or, All-from_get_or}
+use Rattle.std.proofs.lemmas.List.{get_or_past}
 use Rattle.std.proofs.lemmas.Bool.{cases_eq, cases_lt, both_ways, and_parts, and_from, or_cases, or_left, or_right, eqb-true, eq-eqb, ne_eqb, ltb-true, leb-true, le-leb, cond-true}
 use Rattle.domain.specs.declared.predicate.Row.{Row}
 use Rattle.domain.specs.declared.predicate.Predicate.{Predicate}
@@ -17,15 +17,15 @@ counted : (b : Bool) (k : ℕ) → ltb 0 (cond b k 0) ≡ true → b ≡ true
 counted true k h = refl
 counted false k h = absurd (both_ways false refl h)
 
-range_of : (c : ℤ) (top : ℕ) → (le_z (pos 0) c && le_z c (pos top)) ≡ true → (n : ℕ) × (c ≡ pos n) × (n ≤ top)
-range_of (pos n) top h = (n, refl, leb-true n top (and_parts _ _ h).1)
+range_of : (c : ℤ) (top : ℕ) → (le_z (pos 0) c && le_z c (pos top)) ≡ true → (c ≡ pos (nat c)) × (nat c ≤ top)
+range_of (pos n) top h = (refl, leb-true n top (and_parts _ _ h).1)
 range_of (negsuc n) top h = absurd (both_ways false refl h)
 
-small_of : (c : ℤ) (top k : ℕ) → top < 65536 → ltb 0 (cond (le_z (pos 0) c && le_z c (pos top)) k 0) ≡ true → (n : ℕ) × (c ≡ pos n) × (n < 65536)
-small_of c top k l h = let r = range_of c top (counted _ k h) in (r.0, r.1, let m = r.2 in omega arith)
+small_of : (c : ℤ) (top k : ℕ) → top < 65536 → ltb 0 (cond (le_z (pos 0) c && le_z c (pos top)) k 0) ≡ true → (c ≡ pos (nat c)) × (nat c < 65536)
+small_of c top k l h = let r = range_of c top (counted _ k h) in (r.0, let m = r.1 in omega arith)
 
 -- a known predicate's constant is a set of marks
-constant_of : (f : ℕ) (c : ℤ) → ltb 0 (places f c) ≡ true → (n : ℕ) × (c ≡ pos n) × (n < 65536)
+constant_of : (f : ℕ) (c : ℤ) → ltb 0 (places f c) ≡ true → (c ≡ pos (nat c)) × (nat c < 65536)
 constant_of f c h =
     let at : (g : ℕ) → f ≡ g → ltb 0 (places g c) ≡ true = λ g e. subst (λ g. ltb 0 (places g c) ≡ true) e h in
     elim (four_forms f c h) [
@@ -191,14 +191,8 @@ module _ (kinds : List ℕ) (rows : List Row) (room : ℕ) (a : Accepted marks k
     }
 
   -- a choice of marks gives a choice of values
-  module _ (choice : List ℕ) (al : Allowed sets rows (λ v. get_or choice v 0)) (after : List ℤ) (long : length kinds ≤ length after)
-      (written : (v : ℕ) → v < length kinds → get_or after v (pos 0) ≡ pos (get_or choice v 0)) where
-    abbrev chosen : List ℤ
-    chosen = take (length kinds) after
-
-    value : (v : ℕ) → v < length kinds → get_or chosen v (pos 0) ≡ pos (get_or choice v 0)
-    value v l = get_or-take (length kinds) after v (pos 0) l ∙ written v l
-
+  module _ (choice : List ℕ) (al : Allowed sets rows (λ v. get_or choice v 0)) (chosen : List ℤ) (long : length chosen ≡ length kinds)
+      (value : (v : ℕ) → v < length kinds → get_or chosen v (pos 0) ≡ pos (get_or choice v 0)) where
     mark_in : (v : ℕ) → v < 512 → in_range (pos (get_or choice v 0)) ≡ true
     mark_in v l = and_from _ _ (le-leb 0 (get_or choice v 0) (omega arith)) (le-leb (get_or choice v 0) 15 (let k = (al.within v (let s = m.size in omega arith)).0 in omega arith))
 
@@ -258,9 +252,9 @@ module _ (kinds : List ℕ) (rows : List Row) (room : ℕ) (a : Accepted marks k
           (nat (get_or chosen (nth_row rows i).second (pos 0)))
           (four_forms (nth_row rows i).predicate.form (nth_row rows i).predicate.constant fits.known) says_first says_second.1))
 
-    pub allowed_chosen : Chosen marks kinds rows (take (length kinds) after)
+    pub allowed_chosen : Chosen marks kinds rows chosen
     allowed_chosen = record {
-      one_each = let k = length-take (length kinds) after in omega arith;
+      one_each = long;
       of_kind = λ v l. value_in (get_or kinds v 0) v (eqb-true _ 0 (All-get_or (λ k. marks.knows k ≡ true) kinds v 0 l a.known_kinds)) l;
       kept = All-from_get_or (Kept marks chosen) rows _ row_kept;
     }

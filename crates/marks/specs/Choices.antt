@@ -1,5 +1,6 @@
 -- Choices of marks: a set of marks for each variable, and pairs of variables that must differ.
-use Rattle.std.specs.Prelude.{◌≡◌, ℕ, ◌<◌, Bool, true, false, not, ◌&&◌, ◌⊎◌, List, length, Some, None, Option, ◌==◌, ◌≢◌, bit_and, slice_index, slice_index_or}
+use Rattle.std.specs.Prelude.{◌≡◌, ℕ, ◌<◌, Bool, true, false, not, ◌&&◌, ◌⊎◌, List, length, Some, None, Option, MatchOption, ◌==◌, ◌≢◌, bit_and, slice_index, slice_index_or}
+use Rattle.std.proofs.Common.{arith}
 use Rattle.marks.specs.declared.pair.Pair.{Pair}
 use Rattle.marks.specs.Marks.{has}
 
@@ -7,8 +8,12 @@ use Rattle.marks.specs.Marks.{has}
 abbrev pub set_of : List ℕ → ℕ → ℕ
 set_of sets v = slice_index sets v
 
+-- the pair that is read past the end of a list
+abbrev pub no_pair : Pair
+no_pair = record { left = 0; right = 0; left_listed = omega arith; right_listed = omega arith }
+
 abbrev pub nth_pair : List Pair → ℕ → Pair
-nth_pair pairs i = slice_index_or pairs i (record { left = 0; right = 0 })
+nth_pair pairs i = slice_index_or pairs i no_pair
 
 -- each variable has a mark of its set
 abbrev pub Within : List ℕ → (ℕ → ℕ) → Type 0
@@ -23,13 +28,13 @@ pub record Fits (sets : List ℕ) (pairs : List Pair) (f : ℕ → ℕ) : Type 0
   pub within : Within sets f
   pub apart : Apart pairs f
 
+-- no choice fits
+pub record Hopeless (sets : List ℕ) (pairs : List Pair) : Type 0 where
+  pub none : (f : ℕ → ℕ) → Fits sets pairs f → ⊥
+
 -- each set has a mark, and none past 15
 abbrev pub Full : List ℕ → Type 0
 Full sets = (v : ℕ) → v < length sets → (0 < set_of sets v) × (set_of sets v < 65536)
-
--- both of each pair are listed
-abbrev pub Listed : ℕ → List Pair → Type 0
-Listed n pairs = (i : ℕ) → i < length pairs → ((nth_pair pairs i).left < n) × ((nth_pair pairs i).right < n)
 
 -- the sets of the two share a mark
 abbrev pub shares : List ℕ → Pair → Bool
@@ -62,21 +67,14 @@ abbrev pub Other : Pair → ℕ → Option ℕ → Type 0
 Other p v None = (p.left ≢ v) × (p.right ≢ v)
 Other p v (Some w) = ((p.left ≡ v) × (p.right ≡ w)) ⊎ ((p.right ≡ v) × (p.left ≡ w))
 
--- v has lost the mark b, and the other sets are as they were
-pub record Forbidden (before : List ℕ) (v b : ℕ) (after : List ℕ) : Type 0 where
-  pub size : length after ≡ length before
-  pub others : (w : ℕ) → (w ≢ v) → set_of after w ≡ set_of before w
-  pub lost : (x : ℕ) → x < 16 → has (set_of after v) x ≡ (has (set_of before v) x && not (x == b))
-  pub small : set_of after v < 65536
+-- the set has no mark but b
+abbrev pub NoneBut : ℕ → ℕ → Type 0
+NoneBut set b = (x : ℕ) → x < 16 → has set x ≡ true → x ≡ b
 
--- where v has the mark b and is one of the pair, the other has lost it
-pub record Parted (before : List ℕ) (p : Pair) (v b : ℕ) (after : List ℕ) : Type 0 where
-  pub size : length after ≡ length before
-  pub narrowed : Narrowed before after
-  pub full : Full after
-  pub kept : (f : ℕ → ℕ) → Within before f → f v ≡ b → (f p.left ≢ f p.right) → Within after f
-  pub right : p.left ≡ v → has (set_of after p.right) b ≡ false
-  pub left : p.right ≡ v → has (set_of after p.left) b ≡ false
+-- the rest of the set without the mark b, which has a mark
+pub record Rest (set b rest : ℕ) : Type 0 where
+  pub lost : (x : ℕ) → x < 16 → has rest x ≡ (has set x && not (x == b))
+  pub some : 0 < rest
 
 -- v has the mark b alone, and nothing that must differ from v has it
 pub record Given (before : List ℕ) (pairs : List Pair) (v b : ℕ) (after : List ℕ) : Type 0 where
@@ -86,10 +84,10 @@ pub record Given (before : List ℕ) (pairs : List Pair) (v b : ℕ) (after : Li
   pub disjoint : (i : ℕ) → i < length pairs → Touches (nth_pair pairs i) v → shares after (nth_pair pairs i) ≡ false
 
 -- one of the pairs that share a mark, if any does, has the variable that was picked
-abbrev pub Picked : List ℕ → List Pair → ℕ → Option ℕ → Type 0
-Picked sets pairs n None = (i : ℕ) → i < n → shares sets (nth_pair pairs i) ≡ false
-Picked sets pairs n (Some v) =
-    (i : ℕ) × (i < length pairs) × Touches (nth_pair pairs i) v × (shares sets (nth_pair pairs i) ≡ true)
+abbrev pub Picked : List ℕ → List Pair → Option ℕ → Type 0
+Picked sets pairs picked =
+    MatchOption picked ((i : ℕ) → i < length pairs → shares sets (nth_pair pairs i) ≡ false)
+    (λ v. (i : ℕ) × (i < length pairs) × Touches (nth_pair pairs i) v × (shares sets (nth_pair pairs i) ≡ true))
 
 -- the marks a and b stand in the same sets
 abbrev pub Alike : List ℕ → ℕ → ℕ → Type 0

@@ -3,7 +3,7 @@ use Rattle.std.specs.Prelude.{◌≡◌, ℕ, ◌<◌, ◌≤◌, true, cond, Li
 use Rattle.domain.specs.declared.predicate.Row.{Row}
 use Rattle.marks.specs.declared.pair.Pair.{Pair}
 use Rattle.marks.specs.Marks.{has}
-use Rattle.marks.specs.Choices.{Within, Full, set_of, nth_pair}
+use Rattle.marks.specs.Choices.{Within, Apart, Full, set_of}
 use Rattle.marks.specs.Rows.{nth_row}
 
 -- the root of a variable
@@ -25,10 +25,6 @@ pub record Joined (rows : List Row) (n : ℕ) (roots : List ℕ) : Type 0 where
   pub rooted : (f : ℕ → ℕ) → Equal rows n f → Rooted roots f
   pub merged : Equal rows n (root_of roots)
 
--- each variable is its own root
-abbrev pub Alone : ℕ → List ℕ → Type 0
-Alone n roots = (v : ℕ) → v < n → root_of roots v ≡ v
-
 -- one root in place of another
 abbrev pub renamed : ℕ → ℕ → ℕ → ℕ
 renamed from to r = cond (r == from) to r
@@ -46,10 +42,8 @@ Unequal rows roots n f =
     (i : ℕ) → i < n → (nth_row rows i).predicate.form ≡ 4
     → f (root_of roots (nth_row rows i).first) ≢ f (root_of roots (nth_row rows i).second)
 
--- the first few pairs are those roots
-pub record Paired (rows : List Row) (roots : List ℕ) (n : ℕ) (pairs : List Pair) (few : ℕ) : Type 0 where
-  pub size : length pairs ≡ 256
-  pub within : few ≤ n
-  pub listed : (j : ℕ) → j < few → ((nth_pair pairs j).left < 512) × ((nth_pair pairs j).right < 512)
-  pub sound : (f : ℕ → ℕ) → Unequal rows roots n f → (j : ℕ) → j < few → f (nth_pair pairs j).left ≢ f (nth_pair pairs j).right
-  pub whole : (f : ℕ → ℕ) → ((j : ℕ) → j < few → f (nth_pair pairs j).left ≢ f (nth_pair pairs j).right) → Unequal rows roots n f
+-- the pairs are those roots
+pub record Paired (rows : List Row) (roots : List ℕ) (n : ℕ) (pairs : List Pair) : Type 0 where
+  pub within : length pairs ≤ n
+  pub sound : (f : ℕ → ℕ) → Unequal rows roots n f → Apart pairs f
+  pub whole : (f : ℕ → ℕ) → Apart pairs f → Unequal rows roots n f

@@ -5,8 +5,9 @@ use Rattle.std.specs.Int.{w32}
 use Rattle.std.proofs.lemmas.Bool.{and_parts, eqb-true, leb-true, cases_eq, ne_eqb, both_ways, cond_both}
 use Rattle.std.proofs.lemmas.Int.{ints}
 use Rattle.domain.specs.declared.predicate.Predicate.{Predicate}
+use Rattle.domain.specs.Forms.{turned}
 use Rattle.domain.specs.Meaning.{Lawful, Complementary}
-use Rattle.marks.specs.Marks.{marks, in_range, places, says, has, nat, turned}
+use Rattle.marks.specs.Marks.{marks, in_range, places, says, has, nat}
 
 -- a value of the domain is a natural number up to 15
 pub mark_of : (x : ℤ) → in_range x ≡ true → (n : ℕ) × (x ≡ pos n) × (n ≤ 15)

@@ -1,5 +1,6 @@
 -- The meaning of Marks: the marks 0 to 15, sets of them, and whether two are the same.
 use Rattle.std.specs.Prelude.{ℕ, ◌/◌, ◌%◌, ◌^◌, Bool, false, cond, not, ◌&&◌, ◌||◌, ℤ, pos, negsuc, ◌==◌, int_le}
+use Rattle.domain.specs.Forms.{turned}
 use Rattle.domain.specs.Meaning.{Meaning}
 
 -- bit x of the number m is 1: the set m has the mark x
@@ -20,10 +21,6 @@ abbrev pub places : ℕ → ℤ → ℕ
 places f c =
     cond (f == 1 || f == 2) (cond (int_le (pos 0) c && int_le c (pos 65535)) 1 0)
     (cond (f == 3 || f == 4) (cond (int_le (pos 0) c && int_le c (pos 0)) 2 0) 0)
-
--- 1 with 2, 3 with 4
-abbrev pub turned : ℕ → ℕ
-turned f = cond (f == 1) 2 (cond (f == 2) 1 (cond (f == 3) 4 3))
 
 -- 1: bit x of c is 1, 2: it is 0, 3: x = y, 4: x ≠ y
 abbrev pub says : ℕ → ℕ → ℕ → ℕ → Bool

@@ -19,7 +19,7 @@ two r x y = cond (r.predicate.form == 3) (x == y) (cond (r.predicate.form == 4) 
 pub record Proper (r : Row) : Type 0 where
   pub first : r.first < 512
   pub second : (r.predicate.form ≢ 1) → (r.predicate.form ≢ 2) → r.second < 512
-  pub constant : (n : ℕ) × (r.predicate.constant ≡ pos n) × (n < 65536)
+  pub constant : (r.predicate.constant ≡ pos (nat r.predicate.constant)) × (nat r.predicate.constant < 65536)
 
 abbrev pub Ready : List Row → Type 0
 Ready rows = (i : ℕ) → i < length rows → Proper (nth_row rows i)
@@ -38,7 +38,3 @@ pub record Masked (rows : List Row) (n : ℕ) (sets : List ℕ) : Type 0 where
   pub size : length sets ≡ 512
   pub suits : (v x : ℕ) → v < 512 → x < 16 → has (slice_index sets v) x ≡ true → Suits rows n v x
   pub whole : (v x : ℕ) → v < 512 → x < 16 → Suits rows n v x → has (slice_index sets v) x ≡ true
-
--- a table of the set of all marks
-abbrev pub Blank : List ℕ → Type 0
-Blank sets = (v : ℕ) → v < 512 → slice_index sets v ≡ 65535

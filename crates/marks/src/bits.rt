@@ -1,21 +1,28 @@
-// Sets of marks as numbers: bit x of the number says whether the mark x is in the set.
+// Sets of marks as numbers: bit x of the number says whether the mark x is in the set. They stay plain numbers, since
+// `&`, `|` and `count_ones` of std are what most code asks of them; a struct would wrap each of these once more.
 ghost use Rattle.std.specs.Prelude.{◌≡◌, ℕ, ◌<◌, not, ◌&&◌, ◌==◌};
-ghost use Rattle.marks.specs.Marks.{has};
 
-// Whether the set has the mark x.
-pub fn has_bit(set: u16, x: u32) -> bool
-    requires { x < 16 }
-    ensures { result ≡ has set x }
-{
-    (set >> x) % 2 == 1
+// One of the sixteen marks.
+#[derive(Clone, Copy)]
+pub struct Mark {
+    pub number: u32,
+    ghost known: { number < 16 },
 }
 
-// The set of the mark x alone.
-pub fn only(x: u32) -> u16
-    requires { x < 16 }
-    ensures { (y : ℕ) → has result y ≡ (y == x) }
+ghost use Rattle.marks.specs.Marks.{has};
+
+// Whether the set has the mark.
+pub fn has_bit(set: u16, mark: Mark) -> bool
+    ensures { result ≡ has set mark.number }
 {
-    1 << x
+    (set >> mark.number) % 2 == 1
+}
+
+// The set of the mark alone.
+pub fn only(mark: Mark) -> u16
+    ensures { (y : ℕ) → has result y ≡ (y == mark.number) }
+{
+    1 << mark.number
 }
 
 // The marks that are not in the set.
@@ -25,10 +32,9 @@ pub fn complement(set: u16) -> u16
     !set
 }
 
-// The set without the mark x.
-pub fn without(set: u16, x: u32) -> u16
-    requires { x < 16 }
-    ensures { (y : ℕ) → y < 16 → has result y ≡ (has set y && not (y == x)) }
+// The set without the mark.
+pub fn without(set: u16, mark: Mark) -> u16
+    ensures { (y : ℕ) → y < 16 → has result y ≡ (has set y && not (y == mark.number)) }
 {
-    set & complement(only(x))
+    set & complement(only(mark))
 }

@@ -1,45 +1,35 @@
 // Joining the variables that rows of form 3 make equal.
-ghost use Rattle.std.specs.Prelude.{◌≡◌, ℕ, ◌<◌, ◌≤◌, length, MatchBool, MatchOption};
+ghost use Rattle.std.specs.Prelude.{◌≡◌, ℕ, ◌<◌, ◌≤◌, length, MatchOption};
 ghost use Rattle.marks.specs.Choices.{Within};
-ghost use Rattle.marks.specs.Rows.{Ready, Blank};
-ghost use Rattle.marks.specs.Joins.{root_of, Alone, renamed, Joined, Rooted, Gathered, Unequal, Paired};
+ghost use Rattle.marks.specs.Joins.{root_of, renamed, Joined, Rooted, Gathered, Unequal, Paired};
 
 use crate::pair::Pair;
+use crate::ready::ReadyRows;
+use crate::roots::Roots;
 use crate::search::Sets;
-use domain::Row;
+use arrayvec::ArrayVec;
 use domain::lists::{MOST_ROWS, MOST_VARIABLES};
+use std::array;
 
-// The root of each variable.
-pub type Roots = [usize; MOST_VARIABLES];
+pub type Pairs = ArrayVec<Pair, MOST_ROWS>;
 
-pub type Pairs = [Pair; MOST_ROWS];
-
-// Gives the two variables of each row of form 3 the same root.
-pub fn join(rows: &[Row], roots: &mut Roots)
-    requires { Ready rows.now }
-    ensures { Joined rows.now (length rows.now) roots.new }
+// Gives the two variables of each row of form 3 the same root; at first each is its own.
+pub fn join(rows: &ReadyRows) -> Roots
+    ensures { Joined rows.now.list.now (length rows.now.list.now) result.of }
 {
-    part_all(roots);
-    for row in rows {
+    let mut roots = array::from_fn(|v| v);
+    for row in rows.list {
         if row.predicate.form == 3 {
             let from = roots[row.first];
             let to = roots[row.second];
-            rename(roots, from, to);
+            rename(&mut roots, from, to);
         }
     }
-}
-
-// Makes each variable its own root.
-fn part_all(roots: &mut Roots)
-    ensures { Alone 512 roots.new }
-{
-    for v in 0..MOST_VARIABLES {
-        roots[v] = v;
-    }
+    Roots { of: roots }
 }
 
 // Gives the variables of one root another.
-fn rename(roots: &mut Roots, from: usize, to: usize)
+fn rename(roots: &mut [usize; MOST_VARIABLES], from: usize, to: usize)
     ensures { (v : ℕ) → v < 512 → root_of roots.new v ≡ renamed from to (root_of roots.old v) }
 {
     for root in roots.iter_mut() {
@@ -49,40 +39,35 @@ fn rename(roots: &mut Roots, from: usize, to: usize)
     }
 }
 
-// Gathers in the set of each root, blank before, the marks that all its variables may have. False where none is left.
-pub fn gather(sets: &Sets, roots: &Roots, joined: &mut Sets) -> bool
-    requires listed { (v : ℕ) → v < 512 → root_of roots.now v < 512 }
-    requires blank { Blank joined.old }
-    ensures { MatchBool result (Gathered sets.now roots.now 512 joined.new) ((f : ℕ → ℕ) → Rooted roots.now f → Within sets.now f → ⊥) }
+// The marks that all variables of a root may have, as the set of that root; nothing where some root has none.
+pub fn gather(sets: &Sets, roots: &Roots) -> Option<Sets>
+    ensures { MatchOption result ((f : ℕ → ℕ) → Rooted roots.now.of f → Within sets.now f → ⊥) (Gathered sets.now roots.now.of 512) }
 {
-    for v in 0..MOST_VARIABLES {
-        let root = roots[v];
-        joined[root] &= sets[v];
-        if joined[root] == 0 {
-            return false;
+    let mut joined = [u16::MAX; MOST_VARIABLES];
+    // By place, and not as a `zip`: its loop needs two more facts about the iterator.
+    for (v, root) in roots.of.iter().enumerate() {
+        joined[*root] &= sets[v];
+        if joined[*root] == 0 {
+            return None;
         }
     }
-    true
+    Some(joined)
 }
 
-// Lists the pairs of roots that rows of form 4 set apart, and says how many; nothing where a root would differ from itself.
-pub fn list_pairs(rows: &[Row], roots: &Roots, pairs: &mut Pairs) -> Option<usize>
-    requires ready { Ready rows.now }
-    requires few { length rows.now ≤ 256 }
-    requires listed { (v : ℕ) → v < 512 → root_of roots.now v < 512 }
-    ensures { MatchOption result ((f : ℕ → ℕ) → Unequal rows.now roots.now (length rows.now) f → ⊥) (Paired rows.now roots.now (length rows.now) pairs.new) }
+// The pairs of roots that rows of form 4 set apart; nothing where a root would differ from itself.
+pub fn list_pairs(rows: &ReadyRows, roots: &Roots) -> Option<Pairs>
+    ensures { MatchOption result ((f : ℕ → ℕ) → Unequal rows.now.list.now roots.now.of (length rows.now.list.now) f → ⊥) (λ pairs. Paired rows.now.list.now roots.now.of (length rows.now.list.now) pairs.items) }
 {
-    let mut few = 0;
-    for row in rows {
+    let mut pairs = Pairs::new();
+    for row in rows.list {
         if row.predicate.form == 4 {
-            let left = roots[row.first];
-            let right = roots[row.second];
+            let left = roots.of[row.first];
+            let right = roots.of[row.second];
             if left == right {
                 return None;
             }
-            pairs[few] = Pair { left, right };
-            few += 1;
+            pairs.push(Pair { left, right });
         }
     }
-    Some(few)
+    Some(pairs)
 }

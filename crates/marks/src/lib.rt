@@ -6,6 +6,8 @@ ghost use Rattle.marks.specs.Examples.{Examples};
 ghost use Rattle.marks.specs.Marks.{marks, in_range};
 ghost use Rattle.marks.specs.Law;
 
+use bits::Mark;
+use domain::forms::turned_form;
 use domain::lists::{Words, check_lists};
 use domain::{Domain, Outcome, Predicate, Refusal, Row, Sample};
 
@@ -15,6 +17,8 @@ mod clique;
 mod join;
 mod masks;
 mod pair;
+mod ready;
+mod roots;
 mod search;
 mod solve;
 #[cfg(test)]
@@ -45,11 +49,7 @@ impl Domain for Marks {
     }
 
     fn sample(&self, kind: u32) -> Option<Sample> {
-        if self.has_kind(kind) {
-            Some(Sample { value: 0, top: 15 })
-        } else {
-            None
-        }
+        self.has_kind(kind).then_some(Sample { value: 0, top: 15 })
     }
 
     fn test(&self, predicate: Predicate, x: i32, y: i32) -> bool {
@@ -64,13 +64,10 @@ impl Domain for Marks {
         if arity_of(predicate) == 0 {
             return Err(Refusal::Unknown(predicate));
         }
-        let form = match predicate.form {
-            1 => 2,
-            2 => 1,
-            3 => 4,
-            _ => 3,
-        };
-        Ok(Predicate { form, ..predicate })
+        Ok(Predicate {
+            form: turned_form(predicate.form),
+            ..predicate
+        })
     }
 
     fn solve(
@@ -109,7 +106,7 @@ fn holds_of_one(p: Predicate, x: i32) -> bool
     requires { (marks.arity p ≡ 1) × (in_range x ≡ true) }
     ensures { result ≡ marks.holds p x x }
 {
-    bits::has_bit(p.constant as u16, x as u32) == (p.form == 1)
+    bits::has_bit(p.constant as u16, Mark { number: x as u32 }) == (p.form == 1)
 }
 
 // What the definitions say of some predicates and choices.

@@ -1,21 +1,23 @@
 // The marks that each variable may have by its rows of forms 1 and 2.
 ghost use Rattle.std.specs.Prelude.{◌≡◌, ℕ, ◌<◌, length};
 ghost use Rattle.marks.specs.Marks.{has};
-ghost use Rattle.marks.specs.Rows.{one, Proper, Ready, Masked, Blank};
+ghost use Rattle.marks.specs.Rows.{one, Proper, Masked};
 
 use crate::bits::complement;
+use crate::ready::ReadyRows;
 use crate::search::Sets;
 use domain::Row;
+use domain::lists::MOST_VARIABLES;
 
-// Takes from each set, blank before, the marks of which a row of form 1 or 2 does not hold.
-pub fn allow(rows: &[Row], sets: &mut Sets)
-    requires ready { Ready rows.now }
-    requires blank { Blank sets.old }
-    ensures { Masked rows.now (length rows.now) sets.new }
+// The marks that each variable may have: those of which every row of form 1 or 2 that names it holds.
+pub fn allow(rows: &ReadyRows) -> Sets
+    ensures { Masked rows.now.list.now (length rows.now.list.now) result }
 {
-    for row in rows {
+    let mut sets = [u16::MAX; MOST_VARIABLES];
+    for row in rows.list {
         sets[row.first] &= marks_of(*row);
     }
+    sets
 }
 
 // The marks of which the row holds, all of them for a row of form 3 or 4.
@@ -24,11 +26,9 @@ fn marks_of(row: Row) -> u16
     ensures { (x : ℕ) → x < 16 → has result x ≡ one row x }
 {
     let constant = row.predicate.constant as u16;
-    if row.predicate.form == 1 {
-        constant
-    } else if row.predicate.form == 2 {
-        complement(constant)
-    } else {
-        u16::MAX
+    match row.predicate.form {
+        1 => constant,
+        2 => complement(constant),
+        _ => u16::MAX,
     }
 }

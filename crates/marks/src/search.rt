@@ -1,175 +1,162 @@
 // The search for a choice of marks: one from each variable's set, with the two of each pair different.
-ghost use Rattle.std.specs.Prelude.{◌≡◌, ℕ, ◌<◌, true, false, not, ◌⊎◌, length, set, Some, None, MatchBool, ◌==◌, ◌≢◌};
+ghost use Rattle.std.specs.Prelude.{◌≡◌, ℕ, ◌<◌, true, length, MatchBool, MatchOption, count_by, Contains};
 ghost use Rattle.marks.specs.Marks.{has};
-ghost use Rattle.marks.specs.Choices.{Fits, Within, Full, Listed, Settled, Given, Never, Needless, Forbidden, Parted, Picked, Alike, shares, set_of};
+ghost use Rattle.marks.specs.Choices.{Full, Hopeless, Settled, Given, Never, Needless, NoneBut, Rest, Picked, Touches, Alike, shares, set_of};
 
-use crate::bits::{has_bit, only, without};
+use crate::bits::{Mark, has_bit, only, without};
 use crate::clique::crowded;
 use crate::pair::Pair;
 use domain::lists::MOST_VARIABLES;
 
-// The marks that each variable may have.
+// The marks that each variable may have. A variable is a plain index: a struct for it would be read at its number in each
+// look-up and clause, and the loops over all variables would have to show as much. Nor is there a struct that knows that no
+// set is empty: every contract below would name its field, and none would be shorter.
 pub type Sets = [u16; MOST_VARIABLES];
 
-// Narrows the sets until no pair shares a mark. Where that cannot be, no choice fits, and the sets are left anyhow.
-pub fn search(sets: &mut Sets, apart: &[Pair]) -> bool
-    requires listed { Listed 512 apart.now }
-    requires full { Full sets.old }
-    ensures { MatchBool result (Settled sets.old apart.now sets.new) ((f : ℕ → ℕ) → Fits sets.old apart.now f → ⊥) }
+// Narrows the sets until no pair shares a mark; nothing where that cannot be, since then no choice fits.
+pub fn search(sets: &Sets, apart: &[Pair]) -> Option<Sets>
+    requires { Full sets.now }
+    ensures { MatchOption result (Hopeless sets.now apart.now) (Settled sets.now apart.now) }
+{
+    let mut settled = [0; MOST_VARIABLES];
+    settle(sets, apart, &mut settled).then_some(settled)
+}
+
+// Whether the sets can be narrowed so; then `settled` has them. An `Option` of the sets at each step took a third longer.
+fn settle(sets: &Sets, apart: &[Pair], settled: &mut Sets) -> bool
+    requires { Full sets.now }
+    ensures { MatchBool result (Settled sets.now apart.now settled.new) (Hopeless sets.now apart.now) }
 {
     let Some(v) = pick(sets, apart) else {
+        *settled = *sets;
         return true;
     };
     if crowded(sets, apart, v) {
         return false;
     }
-    let before = *sets;
     for b in 0..16 {
-        if attempt(sets, &before, apart, v, b) && search(sets, apart) {
-            return true;
+        if let Some(given) = attempt(sets, apart, v, Mark { number: b }) {
+            if settle(&given, apart, settled) {
+                return true;
+            }
         }
     }
     false
 }
 
-// Gives v the mark b, starting from the sets before. False where no choice has it, or where a lower mark serves as well.
-fn attempt(sets: &mut Sets, before: &Sets, apart: &[Pair], v: usize, b: u32) -> bool
-    requires listed { Listed 512 apart.now }
-    requires full { Full before.now }
+// The sets once v has the mark b; nothing where no choice has it, or where a lower mark serves as well.
+fn attempt(sets: &Sets, apart: &[Pair], v: usize, b: Mark) -> Option<Sets>
+    requires full { Full sets.now }
     requires variable { v < 512 }
-    requires mark { b < 16 }
-    ensures { MatchBool result (Given before.now apart.now v b sets.new) (Needless before.now apart.now v b) }
+    ensures { MatchOption result (Needless sets.now apart.now v b.number) (Given sets.now apart.now v b.number) }
 {
-    if !has_bit(before[v], b) {
-        return false;
+    if !has_bit(sets[v], b) || has_twin(sets, b) {
+        return None;
     }
-    if has_twin(before, b) {
-        return false;
-    }
-    *sets = *before;
     give(sets, apart, v, b)
 }
 
-// Gives v the mark b. False where that leaves a set empty.
-fn give(sets: &mut Sets, apart: &[Pair], v: usize, b: u32) -> bool
-    requires listed { Listed 512 apart.now }
-    requires full { Full sets.old }
+// The sets once v has the mark b, which it may have, and what must differ from v has lost it; nothing where that leaves
+// a set empty.
+fn give(sets: &Sets, apart: &[Pair], v: usize, b: Mark) -> Option<Sets>
+    requires full { Full sets.now }
     requires variable { v < 512 }
-    requires mark { b < 16 }
-    requires allowed { has (set_of sets.old v) b ≡ true }
-    ensures { MatchBool result (Given sets.old apart.now v b sets.new) (Never sets.old apart.now v b) }
+    requires allowed { has (set_of sets.now v) b.number ≡ true }
+    ensures { MatchOption result (Never sets.now apart.now v b.number) (Given sets.now apart.now v b.number) }
 {
-    sets[v] = only(b);
+    let mut given = *sets;
+    given[v] = only(b);
     for pair in apart {
-        if !part(sets, *pair, v, b) {
-            return false;
+        if let Some(w) = pair.other(v) {
+            given[w] = forbid(given[w], b)?;
         }
     }
-    true
+    Some(given)
 }
 
-// Takes the mark b, which v has, from what must differ from v by this pair. False where that leaves a set empty.
-fn part(sets: &mut Sets, pair: Pair, v: usize, b: u32) -> bool
-    requires full { Full sets.old }
-    requires left { pair.left < 512 }
-    requires right { pair.right < 512 }
-    requires mark { b < 16 }
-    ensures { MatchBool result (Parted sets.old pair v b sets.new) ((f : ℕ → ℕ) → Within sets.old f → f v ≡ b → (f pair.left ≢ f pair.right) → ⊥) }
+// The set without the mark b; nothing where that leaves no mark.
+fn forbid(set: u16, b: Mark) -> Option<u16>
+    ensures { MatchOption result (NoneBut set b.number) (Rest set b.number) }
 {
-    match pair.other(v) {
-        Some(w) => forbid(sets, w, b),
-        None => true,
-    }
-}
-
-// Takes the mark b from the set of v; false where nothing is left.
-fn forbid(sets: &mut Sets, v: usize, b: u32) -> bool
-    requires { (v < 512) × (b < 16) }
-    ensures { (Forbidden sets.old v b sets.new) × (result ≡ not (set_of sets.new v == 0)) }
-{
-    sets[v] = without(sets[v], b);
-    sets[v] != 0
+    let rest = without(set, b);
+    if rest == 0 { None } else { Some(rest) }
 }
 
 // A variable of some pair that shares a mark, the most constrained first.
 fn pick(sets: &Sets, apart: &[Pair]) -> Option<usize>
-    requires { Listed 512 apart.now }
-    ensures { Picked sets.now apart.now (length apart.now) result }
+    ensures { Picked sets.now apart.now result }
 {
     let mut rivals = [0; MOST_VARIABLES];
     count_rivals(sets, apart, &mut rivals);
-    let mut best = None;
-    for pair in apart {
-        if sets[pair.left] & sets[pair.right] != 0 {
-            best = Some(tighter(sets, &rivals, best, *pair));
-        }
-    }
-    best
+    let pair = tightest(sets, &rivals, apart)?;
+    Some(tighter(sets, &rivals, pair))
+}
+
+// The most constrained of the pairs that share a mark.
+fn tightest(sets: &Sets, rivals: &Sets, apart: &[Pair]) -> Option<Pair>
+    ensures { MatchOption result (count_by (shares sets.now) apart.now ≡ 0) (λ p. Contains apart.now p × (shares sets.now p ≡ true)) }
+{
+    apart
+        .iter()
+        .copied()
+        .filter(|pair| share(sets, *pair))
+        .min_by_key(|pair| {
+            let left = slack(sets[pair.left], rivals[pair.left]);
+            let right = slack(sets[pair.right], rivals[pair.right]);
+            left.min(right)
+        })
 }
 
 // In how many pairs that share a mark each variable stands. Any count serves: it only guides the choice.
-fn count_rivals(sets: &Sets, apart: &[Pair], rivals: &mut Sets)
-    requires { Listed 512 apart.now }
-{
+fn count_rivals(sets: &Sets, apart: &[Pair], rivals: &mut Sets) {
     for pair in apart {
-        if sets[pair.left] & sets[pair.right] != 0 {
+        if share(sets, *pair) {
             rivals[pair.left] = rivals[pair.left].saturating_add(1);
             rivals[pair.right] = rivals[pair.right].saturating_add(1);
         }
     }
 }
 
-// The most constrained of the best so far and the two of the pair.
-fn tighter(sets: &Sets, rivals: &Sets, best: Option<usize>, pair: Pair) -> usize
-    requires { (pair.left < 512) × ((pair.right < 512) × (((u : ℕ) → best ≡ Some u → u < 512))) }
-    ensures { (best ≡ Some result) ⊎ ((pair.left ≡ result) ⊎ (pair.right ≡ result)) }
+// Whether the sets of the pair share a mark.
+fn share(sets: &Sets, pair: Pair) -> bool
+    ensures { result ≡ shares sets.now pair }
 {
-    let left = slack(sets, rivals, pair.left);
-    let right = slack(sets, rivals, pair.right);
-    let (v, least) = if left <= right {
-        (pair.left, left)
-    } else {
-        (pair.right, right)
-    };
-    match best {
-        Some(u) if slack(sets, rivals, u) <= least => u,
-        _ => v,
-    }
+    sets[pair.left] & sets[pair.right] != 0
 }
 
-// How little hurry there is to give v a mark: most where it has more marks than rivals, since one is then left for it
-// whatever they take; else the more marks it has, and the fewer rivals. Any answer serves: it only orders the search.
-fn slack(sets: &Sets, rivals: &Sets, v: usize) -> u64
-    requires { v < 512 }
+// The more constrained of the two of the pair.
+fn tighter(sets: &Sets, rivals: &Sets, pair: Pair) -> usize
+    ensures { Touches pair result }
 {
-    let marks = sets[v].count_ones() as u64;
-    let others = rivals[v] as u64;
+    let left = slack(sets[pair.left], rivals[pair.left]);
+    let right = slack(sets[pair.right], rivals[pair.right]);
+    if left <= right { pair.left } else { pair.right }
+}
+
+// How little hurry there is to give a mark to a variable of this set with so many rivals: most where it has more marks
+// than rivals, since one is then left for it whatever they take; else the more marks it has, and the fewer rivals. Any
+// answer serves: it only orders the search.
+fn slack(set: u16, rivals: u16) -> u64 {
+    let marks = set.count_ones() as u64;
+    let others = rivals as u64;
     let spare = if marks > others { 1 << 48 } else { 0 };
     spare + marks * 65_536 + (65_535 - others)
 }
 
 // Whether an earlier mark stands in the same sets as b does.
-fn has_twin(sets: &Sets, b: u32) -> bool
-    requires { b < 16 }
-    ensures { result ≡ true → (a : ℕ) × (a < b) × Alike sets.now a b }
+fn has_twin(sets: &Sets, b: Mark) -> bool
+    ensures { result ≡ true → (a : ℕ) × (a < b.number) × Alike sets.now a b.number }
 {
-    for a in 0..b {
-        if alike(sets, a, b) {
-            return true;
-        }
-    }
-    false
+    (0..b.number).any(
+        |a|
+            requires { a < b.number }
+        { alike(sets, Mark { number: a }, b) },
+    )
 }
 
 // Whether the marks a and b stand in the same sets.
-fn alike(sets: &Sets, a: u32, b: u32) -> bool
-    requires { (a < 16) × (b < 16) }
-    ensures { result ≡ true → Alike sets.now a b }
+fn alike(sets: &Sets, a: Mark, b: Mark) -> bool
+    ensures { result ≡ true → Alike sets.now a.number b.number }
 {
-    for set in sets {
-        if has_bit(*set, a) != has_bit(*set, b) {
-            return false;
-        }
-    }
-    true
+    sets.iter().all(|set| has_bit(*set, a) == has_bit(*set, b))
 }

@@ -1,37 +1,23 @@
 // Problems with known answers, and every refusal.
-ghost use Rattle.std.specs.Prelude.{ℕ, ◌≤◌, length};
-
 use crate::Marks;
+use arrayvec::ArrayVec;
 use domain::{Domain, Outcome, Predicate, Row};
 use std::process::Abort;
 use std::test::Fail;
 
 fn row(form: u32, constant: i32, first: usize, second: usize) -> Row {
-    Row {
-        predicate: Predicate {
-            kind: 0,
-            form,
-            constant,
-        },
-        first,
-        second,
-    }
+    Row::new(Predicate::new(0, form, constant), first, second)
 }
 
 // Rows that make every two of the first variables different, as many as there is room for.
-fn all_different(count: usize, rows: &mut [Row]) -> usize
-    ensures { result ≤ length rows.new }
-{
-    let mut few = 0;
+fn all_different(count: usize) -> ArrayVec<Row, 136> {
+    let mut rows = ArrayVec::new();
     for v in 0..count {
         for w in 0..v {
-            if few < rows.len() {
-                rows[few] = row(4, 0, w, v);
-                few += 1;
-            }
+            let _ = rows.try_push(row(4, 0, w, v));
         }
     }
-    few
+    rows
 }
 
 // What `solve` answers for three variables.
@@ -52,29 +38,25 @@ fn refuses(
 ) -> Result<(), Fail> {
     let mut values = [7; 4];
     assert!(rt; room <= 4);
-    match Marks.solve(kinds, rows, &mut values[0..room]) {
-        Ok(_) => Err(Fail::new("not refused")),
-        Err(refusal) => {
-            assert_eq!(rt; refusal.number(), number);
-            assert_eq!(rt; refusal.place(), place);
-            assert_eq!(rt; values, [7; 4]);
-            Ok(())
-        }
-    }
+    let refusal = Marks
+        .solve(kinds, rows, &mut values[0..room])
+        .err()
+        .ok_or("not refused")?;
+    assert_eq!(rt; refusal.number(), number);
+    assert_eq!(rt; refusal.place(), place);
+    assert_eq!(rt; values, [7; 4]);
+    Ok(())
 }
 
 #[test]
 fn sixteen_differ_and_seventeen_do_not(rt: HostRuntime) -> Result<(), Fail> {
-    let mut rows = [row(4, 0, 0, 0); 136];
     let mut values = [0; 17];
-    let sixteen = all_different(16, &mut rows);
     assert_eq!(rt;
-        Marks.solve(&[0; 16], &rows[0..sixteen], &mut values)?,
+        Marks.solve(&[0; 16], &all_different(16), &mut values)?,
         Outcome::Solved
     );
-    let seventeen = all_different(17, &mut rows);
     assert_eq!(rt;
-        Marks.solve(&[0; 17], &rows[0..seventeen], &mut values)?,
+        Marks.solve(&[0; 17], &all_different(17), &mut values)?,
         Outcome::Unsolvable
     );
     Ok(())

@@ -1,8 +1,7 @@
 -- What each side is asked, and what its answer says of the pair.
-use Rattle.std.proofs.Common.{◌≡◌, ℕ, ◌/◌, ◌%◌, ◌<◌, ◌≤◌, true, ◌||◌, eqb, ltb, ◌⊎◌, List, [], ◌∷◌, length, get_or, ℤ, pos, sym, ap, ◌∙◌, inl, inr, ⊎_elim, arith}
-use Rattle.std.proofs.ByRecursion.{All-get_or, All-weaker}
+use Rattle.std.proofs.Common.{◌≡◌, ℕ, ◌/◌, ◌%◌, ◌<◌, ◌≤◌, true, ◌||◌, eqb, ltb, ◌⊎◌, List, length, get_or, ℤ, pos, sym, ap, ◌∙◌, inl, inr, ⊎_elim, arith}
 use Rattle.std.proofs.lemmas.Bool.{and_parts, and_from, or_cases, or_left, or_right, ltb-true, eqb-true, eq-eqb, cases_eq}
-use Rattle.std.specs.List.{AllByRecursion}
+use Rattle.std.specs.List.{All}
 use Rattle.domain.specs.declared.predicate.Predicate.{Predicate}
 use Rattle.domain.specs.declared.predicate.Row.{Row}
 use Rattle.domain.specs.Meaning.{Meaning, Lawful, known, tested}
@@ -14,10 +13,6 @@ use Rattle.pair.proofs.Having.{side_is}
 use Rattle.pair.specs.Laws.{half_lawful, pair_lawful}
 use Rattle.pair.proofs.Sifting.{length_sifted, all_sifted, all_unsifted}
 
-all_both : {A : Type 0} (P Q : A → Type 0) (xs : List A) → AllByRecursion P xs → AllByRecursion Q xs → AllByRecursion (λ x. P x × Q x) xs
-all_both P Q [] ps qs = tt
-all_both P Q (x ∷ xs) ps qs = ((ps.0, qs.0), all_both P Q xs ps.1 qs.1)
-
 -- at arity 1 a test does not look at its second value
 tested_alone : (m : Meaning) → Lawful m → (p : Predicate) (x y z : ℤ) → m.arity p ≡ 1 → tested m p x y ≡ tested m p x z
 tested_alone m law p x y z e = rw (e, law.alone p x y z e)
@@ -26,7 +21,7 @@ module _ (l r : Meaning) (left : Lawful l) (right : Lawful r) where
   -- the values serve the variables and the rows of a side
   pub record Served (kinds : List ℕ) (rows : List Row) (s : ℕ) (vs : List ℤ) : Type 0 where
     pub of_kind : (i : ℕ) → i < length kinds → on s (get_or kinds i 0) ≡ true → (paired l r).within (get_or kinds i 0) (get_or vs i (pos 0)) ≡ true
-    pub kept : AllByRecursion (λ row. row_on s row ≡ true → Kept (paired l r) vs row) rows
+    pub kept : All (λ row. row_on s row ≡ true → Kept (paired l r) vs row) rows
 
   -- a known kind of the pair is its side's
   known_side : (s k : ℕ) → on s k ≡ true → (paired l r).knows k ≡ true → side l r k ≡ half l r s
@@ -79,9 +74,9 @@ module _ (l r : Meaning) (left : Lawful l) (right : Lawful r) where
 
     module _ (rows : List Row) (room : ℕ) (ok : Accepted (paired l r) kinds rows room) where
       kind_known : (i : ℕ) → i < length kinds → (paired l r).knows (get_or kinds i 0) ≡ true
-      kind_known i h = All-get_or (λ k. (paired l r).knows k ≡ true) kinds i 0 h ok.known_kinds
+      kind_known i h = ok.known_kinds i 0 h
 
-      pub side_accepted : Accepted (half l r s) (side_kinds s kinds) (side_rows s places rows) (length (side_kinds s kinds))
+      pub side_accepted : Accepted (half l r s) (side_kinds s kinds) (side_rows s places rows) 512
       unfolding side_kinds side_rows
       side_accepted =
           let few_kinds : length (side_kinds s kinds) ≤ length kinds = length_sifted (λ (k : ℕ). k / 2) (on s) kinds in
@@ -95,7 +90,7 @@ module _ (l r : Meaning) (left : Lawful l) (right : Lawful r) where
             fit_rows =
                 all_sifted (moved places) (row_on s) (λ row. fit (paired l r) kinds row ≡ true) (λ row. fit (half l r s) (side_kinds s kinds) row ≡ true)
                 (λ row t h. row_fits row h t) rows ok.fit_rows;
-            enough_room = omega arith;
+            enough_room = omega (arith, ok.few_variables);
           }
 
       -- a choice for the pair is a choice for each side
@@ -110,7 +105,7 @@ module _ (l r : Meaning) (left : Lawful l) (right : Lawful r) where
                 all_sifted (moved places) (row_on s) (λ row. (fit (paired l r) kinds row ≡ true) × Kept (paired l r) vs row)
                 (Kept (half l r s) (side_values s kinds places ranks vs))
                 (λ row t h. sym (same_test row h.0 t vs (side_values s kinds places ranks vs) (at_values s kinds places ranks vs)) ∙ h.1)
-                rows (all_both _ _ rows ok.fit_rows chosen.kept);
+                rows (λ k d h. (ok.fit_rows k d h, chosen.kept k d h));
           }
         where
           of_kind_at : {j : ℕ} → (i : ℕ) × (i < length kinds) × (on s (get_or kinds i 0) ≡ true) × (get_or places i 0 ≡ j)
@@ -133,9 +128,8 @@ module _ (l r : Meaning) (left : Lawful l) (right : Lawful r) where
                 let its : side l r (get_or kinds i 0) ≡ half l r s = known_side s (get_or kinds i 0) t (kind_known i h) in
                 let part : (half l r s).within (get_or (side_kinds s kinds) (get_or places i 0) 0) (get_or ws (get_or places i 0) (pos 0)) ≡ true = chosen.of_kind (get_or places i 0) (below_rank s kinds places ranks i h t) in
                 rw (its, ← at_rank s kinds places ranks i h t, agree i h t) part;
-            kept =
-                All-weaker _ (λ row. row_on s row ≡ true → Kept (paired l r) vs row) (λ row h t. same_test row h.0 t vs ws agree ∙ h.1 t) rows
-                (all_both _ _ rows ok.fit_rows (all_unsifted (moved places) (row_on s) (Kept (half l r s) ws) rows chosen.kept));
+            kept = λ k d h t.
+                same_test (get_or rows k d) (ok.fit_rows k d h) t vs ws agree ∙ all_unsifted (moved places) (row_on s) (Kept (half l r s) ws) rows chosen.kept k d h t;
           }
 
   either_side : (k : ℕ) → (on 0 k ≡ true) ⊎ (on 1 k ≡ true)
@@ -147,5 +141,5 @@ module _ (l r : Meaning) (left : Lawful l) (right : Lawful r) where
       record {
         one_each = len;
         of_kind = λ i h. ⊎_elim (even.of_kind i h) (odd.of_kind i h) (either_side (get_or kinds i 0));
-        kept = All-weaker _ (Kept (paired l r) vs) (λ row h. ⊎_elim h.0 h.1 (either_side row.predicate.kind)) rows (all_both _ _ rows even.kept odd.kept);
+        kept = λ k d h. ⊎_elim (even.kept k d h) (odd.kept k d h) (either_side (get_or rows k d).predicate.kind);
       }

@@ -3,13 +3,13 @@ use Rattle.std.proofs.Common.{◌≡◌, ℕ, ◌/◌, ◌<◌, true, eqb, ltb, 
 use Rattle.std.proofs.lemmas.Bool.{and_parts, and_from, ltb-true, lt-ltb, eqb-true, eq-eqb}
 use Rattle.domain.specs.Solving.{names}
 use Rattle.pair.specs.Split.{on, side_kinds, rank, Ranks}
-use Rattle.pair.proofs.Sifting.{getD_sifted, sifted_below, source, beside, length_beside, get_d_beside}
+use Rattle.pair.proofs.Sifting.{get_or_sifted, sifted_below, source, beside, length_beside, get_or_beside}
 
 module _ (s : ℕ) (kinds places : List ℕ) (ranks : Ranks s kinds places) where
   module _ (i : ℕ) (h : i < length kinds) (t : on s (get_or kinds i 0) ≡ true) where
     pub at_rank : get_or (side_kinds s kinds) (get_or places i 0) 0 ≡ get_or kinds i 0 / 2
     unfolding side_kinds rank
-    at_rank = rw (ranks i h) (getD_sifted (λ (k : ℕ). k / 2) (on s) kinds i 0 0 h t)
+    at_rank = rw (ranks i h) (get_or_sifted (λ (k : ℕ). k / 2) (on s) kinds i 0 0 h t)
 
     pub below_rank : get_or places i 0 < length (side_kinds s kinds)
     unfolding side_kinds rank
@@ -31,7 +31,7 @@ module _ (s : ℕ) (kinds places : List ℕ) (ranks : Ranks s kinds places) wher
 
   pub at_values : (vs : List ℤ) (i : ℕ) → i < length kinds → on s (get_or kinds i 0) ≡ true → get_or vs i (pos 0) ≡ get_or (side_values vs) (get_or places i 0) (pos 0)
   unfolding side_kinds side_values rank
-  at_values vs i h t = sym (rw (ranks i h) (get_d_beside (λ (k : ℕ). k / 2) (on s) (pos 0) 0 kinds vs i h t))
+  at_values vs i h t = sym (rw (ranks i h) (get_or_beside (λ (k : ℕ). k / 2) (on s) (pos 0) 0 kinds vs i h t))
 
   pub name_moved : (k i : ℕ) → on s k ≡ true → names kinds k i ≡ true → names (side_kinds s kinds) (k / 2) (get_or places i 0) ≡ true
   name_moved k i t n =

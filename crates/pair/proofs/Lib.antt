@@ -1,4 +1,3 @@
-pub mod Asking
 pub mod Choosing
 pub mod Dealing
 pub mod Following

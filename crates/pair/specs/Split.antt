@@ -1,12 +1,19 @@
--- How the variables and the rows of a call of `solve` are dealt to the two sides. A side goes by its number, 0 or 1.
-use Rattle.std.specs.Prelude.{◌≡◌, ℕ, ◌/◌, ◌%◌, ◌<◌, ◌≤◌, Bool, true, false, ◌⊎◌, List, map, length, take, drop, ℤ, pos, filter, ◌==◌, slice_index, slice_index_or}
+-- How the variables and the rows of a call of `solve` are dealt to the two sides. A side goes by its number.
+use Rattle.std.specs.Prelude.{◌≡◌, ℕ, ◌/◌, ◌%◌, ◌<◌, Bool, true, false, ◌⊎◌, List, map, length, take, drop, ℤ, pos, Some, None, Option, filter, ◌==◌, slice_index, slice_index_or}
 use Rattle.domain.specs.declared.predicate.Row.{Row}
 use Rattle.domain.specs.declared.predicate.Outcome.{Outcome}
 use Rattle.domain.specs.declared.predicate.Outcome.TheVariants.{Unsolvable, Solved}
 use Rattle.domain.specs.Meaning.{Meaning}
-use Rattle.domain.specs.Solving.{Chosen, Accepted}
+use Rattle.domain.specs.Solving.{Chosen}
+use Rattle.pair.specs.declared.sides.Side.{Side}
+use Rattle.pair.specs.declared.sides.Side.TheVariants.{Left, Right}
 use Rattle.pair.specs.declared.split.Share.{Share}
 use Rattle.pair.specs.Paired.{down}
+
+-- a side's number: 0 is the left, and 1 the right
+abbrev pub number : Side → ℕ
+number Left = 0
+number Right = 1
 
 -- a kind is on a side
 abbrev pub on : ℕ → ℕ → Bool
@@ -43,39 +50,25 @@ pub record PutBack (s : ℕ) (kinds places : List ℕ) (found before : List ℤ)
   pub kept : (i : ℕ) → i < n → on s (slice_index kinds i) ≡ false → slice_index_or after i (pos 0) ≡ slice_index_or before i (pos 0)
   pub rest : drop n after ≡ drop n before
 
--- what a share asks its side: the kinds of its variables, and its rows
-abbrev pub asked_kinds : Share → List ℕ
-asked_kinds h = take h.variables h.kinds
-
-abbrev pub asked_rows : Share → List Row
-asked_rows h = take h.constraints h.rows
-
 -- the share is that of a side in a call of `solve` with these lists
 pub record Shared (s : ℕ) (kinds : List ℕ) (rows : List Row) (h : Share) : Type 0 where
-  pub variables : h.variables ≡ length (side_kinds s kinds)
-  pub constraints : h.constraints ≡ length (side_rows s h.places rows)
-  pub asked_kinds : asked_kinds h ≡ side_kinds s kinds
-  pub asked_rows : asked_rows h ≡ side_rows s h.places rows
-  pub ranks : Ranks s kinds h.places
-
--- a share that its side does not refuse, with a table of values that has room for its variables
-pub record Askable (m : Meaning) (h : Share) (room : ℕ) : Type 0 where
-  pub variables : h.variables ≤ 512
-  pub constraints : h.constraints ≤ 256
-  pub fits : h.variables ≤ room
-  pub accepted : Accepted m (asked_kinds h) (asked_rows h) h.variables
+  pub side : number h.side ≡ s
+  pub asked_kinds : h.kinds.items ≡ side_kinds s kinds
+  pub asked_rows : h.rows.items ≡ side_rows s h.places.items rows
+  pub ranks : Ranks s kinds h.places.items
+  pub listed : length h.places.items ≡ length kinds
 
 -- what an outcome says once no refusal applies, with the table of values before and after
 abbrev pub Settles : Meaning → List ℕ → List Row → List ℤ → List ℤ → Outcome → Type 0
 Settles m kinds rows before after Unsolvable = ((vs : List ℤ) → Chosen m kinds rows vs → ⊥) × (after ≡ before)
 Settles m kinds rows before after Solved = Chosen m kinds rows (take (length kinds) after) × (drop (length kinds) after ≡ drop (length kinds) before)
 
--- the same of a share
-abbrev pub Answers : Meaning → Share → List ℤ → List ℤ → Outcome → Type 0
-Answers m h before after outcome = Settles m (asked_kinds h) (asked_rows h) before after outcome
+-- what a side answers to its share: that it has no choice, or a table with one at its front
+abbrev pub Answers : Meaning → Share → Option (List ℤ) → Type 0
+Answers m h None = (vs : List ℤ) → Chosen m h.kinds.items h.rows.items vs → ⊥
+Answers m h (Some found) = Chosen m h.kinds.items h.rows.items (take (length h.kinds.items) found)
 
--- the outcome of both shares: each side has its own table, and the right side is asked only once the left one is solved
-abbrev pub BothAnswer : Meaning → Share → List ℤ → List ℤ → Meaning → Share → List ℤ → List ℤ → Outcome → Type 0
-BothAnswer l a before after r b before' after' Unsolvable =
-    (Answers l a before after Unsolvable × (after' ≡ before')) ⊎ (Answers l a before after Solved × Answers r b before' after' Unsolvable)
-BothAnswer l a before after r b before' after' Solved = Answers l a before after Solved × Answers r b before' after' Solved
+-- what both sides answer to theirs: that one has no choice, or a table of each
+abbrev pub BothAnswer : Meaning → Share → Meaning → Share → Option (List ℤ × List ℤ) → Type 0
+BothAnswer l a r b None = Answers l a None ⊎ Answers r b None
+BothAnswer l a r b (Some found) = Answers l a (Some found.0) × Answers r b (Some found.1)

@@ -2,20 +2,20 @@
 #![tactic(auto)]
 
 ghost use Rattle.std.specs.Prelude.{◌≡◌, length};
-ghost use Rattle.domain.specs.Meaning.{Meaning, sample_of};
+ghost use Rattle.domain.specs.Meaning.{Meaning};
 ghost use Rattle.domain.specs.Solving.{Accepted};
 ghost use Rattle.pair.specs.Paired.{paired};
 ghost use Rattle.pair.specs.Rule.{Rule, Examples};
-ghost use Rattle.pair.specs.Split.{Askable, Settles, BothAnswer};
+ghost use Rattle.pair.specs.Split.{Settles, BothAnswer};
 ghost use Rattle.pair.specs.Laws.{pair_lawful};
 
 mod sides;
 mod split;
 
-use domain::lists::{MOST_VARIABLES, Words, check_lists};
+use domain::lists::{Words, check_lists};
 use domain::{Domain, Outcome, Predicate, Refusal, Row, Sample};
-use sides::{LEFT, RIGHT, moved_down, moved_up};
-use split::{Share, deal, put_back};
+use sides::{Side, moved_down, moved_up};
+use split::{Share, Values};
 
 // Kind 2k is kind k of the left side, and kind 2k + 1 is kind k of the right side.
 #[derive(Drop)]
@@ -39,27 +39,32 @@ impl<L: Domain, R: Domain> Domain for Pair<L, R> {
     ghost lawful = { λ d. pair_lawful _ _ (L.Domain.lawful d.left) (R.Domain.lawful d.right) };
 
     fn arity(&self, predicate: Predicate) -> u32 {
-        self.arity_of(predicate)
+        match Side::of(predicate.kind) {
+            Side::Left => self.left.arity(moved_down(predicate)),
+            Side::Right => self.right.arity(moved_down(predicate)),
+        }
     }
 
     fn sample(&self, kind: u32) -> Option<Sample> {
-        self.sample_of(kind)
+        match Side::of(kind) {
+            Side::Left => self.left.sample(kind / 2),
+            Side::Right => self.right.sample(kind / 2),
+        }
     }
 
     fn test(&self, predicate: Predicate, x: i32, y: i32) -> bool {
-        if predicate.kind % 2 == LEFT {
-            self.left.test(moved_down(predicate), x, y)
-        } else {
-            self.right.test(moved_down(predicate), x, y)
+        match Side::of(predicate.kind) {
+            Side::Left => self.left.test(moved_down(predicate), x, y),
+            Side::Right => self.right.test(moved_down(predicate), x, y),
         }
     }
 
     fn complement(&self, predicate: Predicate) -> Result<Predicate, Refusal> {
-        if predicate.kind % 2 == LEFT {
-            moved_up(predicate, self.left.complement(moved_down(predicate)))
-        } else {
-            moved_up(predicate, self.right.complement(moved_down(predicate)))
-        }
+        let found = match Side::of(predicate.kind) {
+            Side::Left => self.left.complement(moved_down(predicate)),
+            Side::Right => self.right.complement(moved_down(predicate)),
+        };
+        moved_up(predicate, found)
     }
 
     fn solve(
@@ -77,11 +82,11 @@ impl<L: Domain, R: Domain> Words for Pair<L, R> {
     ghost spoken = { λ d. paired (L.Domain.meaning d.left) (R.Domain.meaning d.right) };
 
     fn has_kind(&self, kind: u32) -> bool {
-        self.sample_of(kind).is_some()
+        self.sample(kind).is_some()
     }
 
     fn places(&self, predicate: Predicate) -> u32 {
-        self.arity_of(predicate)
+        self.arity(predicate)
     }
 }
 
@@ -92,26 +97,6 @@ pub fn follows_its_rule()
 {}
 
 impl<L: Domain, R: Domain> Pair<L, R> {
-    fn sample_of(&self, kind: u32) -> Option<Sample>
-        ensures { result ≡ sample_of (paired (L.Domain.meaning self.now.left) (R.Domain.meaning self.now.right)) kind }
-    {
-        if kind % 2 == LEFT {
-            self.left.sample(kind / 2)
-        } else {
-            self.right.sample(kind / 2)
-        }
-    }
-
-    fn arity_of(&self, predicate: Predicate) -> u32
-        ensures { result ≡ (paired (L.Domain.meaning self.now.left) (R.Domain.meaning self.now.right)).arity predicate }
-    {
-        if predicate.kind % 2 == LEFT {
-            self.left.arity(moved_down(predicate))
-        } else {
-            self.right.arity(moved_down(predicate))
-        }
-    }
-
     // Solves each side's share. A side writes into a table of its own, so that nothing is written into `values` before
     // both are solved.
     fn solve_checked(&mut self, kinds: &[u32], rows: &[Row], values: &mut [i32]) -> Outcome
@@ -120,36 +105,28 @@ impl<L: Domain, R: Domain> Pair<L, R> {
         ensures left { L.Domain.meaning self.new.left ≡ L.Domain.meaning self.old.left }
         ensures right { R.Domain.meaning self.new.right ≡ R.Domain.meaning self.old.right }
     {
-        let (left, right) = deal(kinds, rows);
-        let mut on_left = [0; MOST_VARIABLES];
-        let mut on_right = [0; MOST_VARIABLES];
-        match self.ask_both(&left, &right, &mut on_left, &mut on_right) {
-            Outcome::Unsolvable => Outcome::Unsolvable,
-            Outcome::Solved => {
-                put_back(LEFT, kinds, &left.places, &on_left, values);
-                put_back(RIGHT, kinds, &right.places, &on_right, values);
+        let left = Share::of(Side::Left, kinds, rows);
+        let right = Share::of(Side::Right, kinds, rows);
+        match self.ask_both(&left, &right) {
+            None => Outcome::Unsolvable,
+            Some(found) => {
+                left.put_back(kinds, &found.0, values);
+                right.put_back(kinds, &found.1, values);
                 Outcome::Solved
             }
         }
     }
 
     // Asks the left side, and the right one once the left one is solved.
-    fn ask_both(
-        &mut self,
-        left: &Share,
-        right: &Share,
-        on_left: &mut [i32],
-        on_right: &mut [i32],
-    ) -> Outcome
-        requires left { Askable (L.Domain.meaning self.old.left) left.now (length on_left.old) }
-        requires right { Askable (R.Domain.meaning self.old.right) right.now (length on_right.old) }
-        ensures answers { BothAnswer (L.Domain.meaning self.old.left) left.now on_left.old on_left.new (R.Domain.meaning self.old.right) right.now on_right.old on_right.new result }
+    fn ask_both(&mut self, left: &Share, right: &Share) -> Option<(Values, Values)>
+        requires left { Accepted (L.Domain.meaning self.old.left) left.now.kinds.items left.now.rows.items 512 }
+        requires right { Accepted (R.Domain.meaning self.old.right) right.now.kinds.items right.now.rows.items 512 }
+        ensures answers { BothAnswer (L.Domain.meaning self.old.left) left.now (R.Domain.meaning self.old.right) right.now result }
         ensures left { L.Domain.meaning self.new.left ≡ L.Domain.meaning self.old.left }
         ensures right { R.Domain.meaning self.new.right ≡ R.Domain.meaning self.old.right }
     {
-        match left.ask(&mut self.left, on_left) {
-            Outcome::Unsolvable => Outcome::Unsolvable,
-            Outcome::Solved => right.ask(&mut self.right, on_right),
-        }
+        let on_left = left.ask(&mut self.left)?;
+        let on_right = right.ask(&mut self.right)?;
+        Some((on_left, on_right))
     }
 }

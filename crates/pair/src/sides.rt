@@ -1,13 +1,34 @@
 // The two sides of a pair, and how predicates move between a side and the pair.
-ghost use Rattle.std.specs.Prelude.{◌≡◌};
+ghost use Rattle.std.specs.Prelude.{◌≡◌, ◌%◌};
 ghost use Rattle.pair.specs.Paired.{down, lifted};
+ghost use Rattle.pair.specs.Split.{number, on};
 
 use domain::{Predicate, Refusal};
 
-// The side of a kind is the kind modulo 2.
-pub const LEFT: u32 = 0;
+#[derive(Clone, Copy, PartialEq, Eq, Debug)]
+pub enum Side {
+    Left,
+    Right,
+}
 
-pub const RIGHT: u32 = 1;
+impl Side {
+    // The side that has a kind of the pair: the left one has the even kinds.
+    pub fn of(kind: u32) -> Side
+        ensures { number result ≡ kind % 2 }
+    {
+        if kind % 2 == 0 {
+            Side::Left
+        } else {
+            Side::Right
+        }
+    }
+
+    pub fn has(self, kind: u32) -> bool
+        ensures { result ≡ on (number self) kind }
+    {
+        Side::of(kind) == self
+    }
+}
 
 // A predicate of the pair as its side knows it.
 pub fn moved_down(predicate: Predicate) -> Predicate
@@ -26,11 +47,10 @@ pub fn moved_up(
 ) -> Result<Predicate, Refusal>
     ensures { result ≡ lifted predicate found }
 {
-    match found {
-        Ok(below) => Ok(Predicate {
+    found
+        .map(|below| Predicate {
             kind: predicate.kind,
             ..below
-        }),
-        Err(_) => Err(Refusal::Unknown(predicate)),
-    }
+        })
+        .map_err(|_| Refusal::Unknown(predicate))
 }

@@ -1,22 +1,26 @@
 -- Choices of values and potentials of the rows' links are the same thing, 32,768 apart.
-use Rattle.std.proofs.Common.{◌≡◌, ℕ, ◌+◌, ◌-◌, ◌<◌, ◌≤◌, Bool, true, cond, ◌&&◌, ◌||◌, eqb, ltb, ◌⊎◌, List, length, get_or, ℤ, pos, negsuc, ◌+ℤ◌, ◌-ℤ◌, nat_abs, ◌≤ℤ◌, sym, refl, ap, ◌∙◌, subst, inl, inr, ⊎_elim, arith, w32, to_z, of_z}
+use Rattle.std.proofs.Common.{◌≡◌, ℕ, ◌+◌, ◌<◌, ◌≤◌, Bool, true, cond, ◌&&◌, ◌||◌, eqb, ltb, ◌⊎◌, List, ◌++◌, length, get_or, take, drop, map, ℤ, pos, negsuc, ◌+ℤ◌, nat_abs, ◌≤ℤ◌, sym, refl, ap, ◌∙◌, subst, inl, inr, ⊎_elim, arith}
 use lib.Signed.{le_z}
-use Rattle.std.proofs.ByRecursion.{All-get_or, All-from_get_or, All-weaker}
-use Rattle.std.proofs.lemmas.List.{get_or_past}
+use Rattle.std.proofs.lemmas.List.Elements.{All-get_or, All-from_get_or, All-weaker}
+use Rattle.std.proofs.lemmas.List.{get_or_past, get_or-map, get_or-take, length-map, length-take-le}
+use Rattle.std.proofs.lemmas.Slice.Zip.{AllZip-long}
+use Rattle.std.proofs.Math.Seq.{take-append_seam, drop-append_seam}
 use Rattle.std.proofs.lemmas.Int.{ints}
 use Rattle.std.proofs.lemmas.Bool.{and_parts, and_from, or_cases, or_left, or_right, cases_lt, eqb-true, eq-eqb, ltb-true}
-use Rattle.std.specs.List.{AllByRecursion}
+use Rattle.std.specs.List.{All, AllZip}
 use Rattle.domain.proofs.Failing.{no_row}
+use Rattle.domain.specs.declared.predicate.Outcome.TheVariants.{Solved}
 use Rattle.domain.specs.declared.predicate.Predicate.{Predicate}
 use Rattle.domain.specs.declared.predicate.Row.{Row}
 use Rattle.domain.specs.Meaning.{known, tested}
 use Rattle.domain.specs.Solving.{Accepted, Chosen, Kept, names, fit}
 use Rattle.tenths.specs.declared.links.Link.{Link}
 use Rattle.tenths.specs.Differences.{at, Keeps, Fair, Potential, Under}
-use Rattle.tenths.specs.Relaxing.{no_link, Lowest}
-use Rattle.tenths.specs.Rows.{value, Placed, Stands, LowestChoice}
+use Rattle.tenths.specs.Relaxing.{no_link}
+use Rattle.tenths.specs.Rows.{value, Placed, Stands, LowestChoice, Chooses}
 use Rattle.tenths.specs.Tenths.{tenths, in_range, places, says}
 use Rattle.tenths.specs.Forms.{known_parts, alone_says}
+use Rattle.tenths.proofs.Linking.{stands_at}
 
 -- the number that stands for a value
 pub shifted : ℤ → ℕ
@@ -79,13 +83,30 @@ fit_placed kinds row f =
       second = ⊎_elim (λ e. inl (eqb-true (tenths.arity row.predicate) 1 e)) (λ e. inr (named_below kinds k row.second e)) (or_cases one (names kinds k row.second) b.1);
     }
 
+-- what stands in front and behind once the values of these bounds are written
+written_front :
+    (bounds : List ℕ) (before after : List ℤ) (n : ℕ) → length bounds ≡ n → after ≡ map value bounds ++ drop (length bounds) before
+    → (take n after ≡ map value bounds) × (drop n after ≡ drop n before)
+written_front bounds before after n size e =
+    let rest = drop (length bounds) before in
+    let long : n ≡ length (map value bounds) = sym (length-map bounds value ∙ size) in (
+      ap (take n) e ∙ (ap (λ m. take m (map value bounds ++ rest)) long ∙ take-append_seam (map value bounds) rest),
+      ap (drop n) e ∙ (ap (λ m. drop m (map value bounds ++ rest)) long ∙ (drop-append_seam (map value bounds) rest ∙ ap (λ m. drop m before) size)),
+    )
+
 module _ (kinds : List ℕ) (rows : List Row) (room : ℕ) (accepted : Accepted tenths kinds rows room) where
-  pub all_placed : AllByRecursion (Placed (length kinds)) rows
+  pub all_placed : All (Placed (length kinds)) rows
   all_placed = All-weaker (λ r. fit tenths kinds r ≡ true) (Placed (length kinds)) (fit_placed kinds) rows accepted.fit_rows
 
-  module _ (links : List Link) (size : length links ≡ length rows) (stands : (k : ℕ) → k < length rows → Stands (length kinds) (get_or rows k no_row) (get_or links k no_link)) where
-    pub all_fair : AllByRecursion (Fair (length kinds + 1)) links
-    all_fair = All-from_get_or (Fair (length kinds + 1)) links no_link (λ k h. (stands k (omega arith)).fair)
+  module _ (links : List Link) (each_row : AllZip (Stands (length kinds)) rows links) where
+    size : length links ≡ length rows
+    size = AllZip-long (Stands (length kinds)) rows links each_row
+
+    stands : (k : ℕ) → k < length rows → Stands (length kinds) (get_or rows k no_row) (get_or links k no_link)
+    stands k h = stands_at (length kinds) rows links each_row k no_row no_link h
+
+    pub all_fair : All (Fair (length kinds + 1)) links
+    all_fair = All-from_get_or (Fair (length kinds + 1)) links no_link (λ k h. (stands k (omega (arith, size))).fair)
 
     module _ (vs : List ℤ) (ch : Chosen tenths kinds rows vs) where
       -- past the variables the list reads as 0, so every read is in range
@@ -110,8 +131,8 @@ module _ (kinds : List ℕ) (rows : List Row) (room : ℕ) (accepted : Accepted 
           let c = row.predicate.constant in
           let x = get_or vs row.first (pos 0) in
           let y = get_or vs row.second (pos 0) in
-          let t = tested_says row.predicate x y (All-get_or (Kept tenths vs) rows k no_row (omega arith) ch.kept) in
-          ((stands k (omega arith)).means (λ n. shifted (get_or vs n (pos 0))) zero_shifted).0
+          let t = tested_says row.predicate x y (All-get_or (Kept tenths vs) rows k no_row (omega (arith, size)) ch.kept) in
+          ((stands k (omega (arith, size))).means (λ n. shifted (get_or vs n (pos 0))) zero_shifted).0
           (ap (λ (z : ℤ). says f c z (value (shifted y))) (same row.first) ∙ (ap (λ (z : ℤ). says f c x z) (same row.second) ∙ t))
 
       pub choice_potential : Potential (length kinds) links (λ x. shifted (get_or vs x (pos 0)))
@@ -122,27 +143,42 @@ module _ (kinds : List ℕ) (rows : List Row) (room : ℕ) (accepted : Accepted 
             kept = All-from_get_or (Keeps (λ x. shifted (get_or vs x (pos 0)))) links no_link link_kept;
           }
 
-    module _ (ds : List ℕ) (vs : List ℤ) (each : length vs ≡ length kinds) (written : (x : ℕ) → x < length kinds → get_or vs x (pos 0) ≡ value (at ds x)) where
-      pub lowest_choice : Under links (length kinds) ds → LowestChoice kinds rows vs
+    -- the values that the first bounds stand for
+    module _ (ds : List ℕ) (spots : length ds ≡ length kinds + 1) where
+      abbrev first_values : List ℤ
+      first_values = map value (take (length kinds) ds)
+
+      each : length first_values ≡ length kinds
+      each = length-map (take (length kinds) ds) value ∙ length-take-le (length kinds) ds (omega arith)
+
+      written : (x : ℕ) → x < length kinds → get_or first_values x (pos 0) ≡ value (at ds x)
+      written x h =
+          get_or-map value (take (length kinds) ds) x 0 (pos 0) (omega (arith, length-take-le (length kinds) ds (omega arith)))
+          ∙ ap value (get_or-take (length kinds) ds x 0 h)
+
+      lowest_choice : Under links (length kinds) ds → LowestChoice kinds rows first_values
       lowest_choice under us ch x h =
           subst (λ (z : ℤ). z ≤ℤ get_or us x (pos 0)) (sym (written x h))
           (at_least (get_or us x (pos 0)) (everywhere us ch x) (at ds x) (under (λ n. shifted (get_or us n (pos 0))) (choice_potential us ch) x (omega arith)))
 
       module _ (p : Potential (length kinds) links (at ds)) where
-        ranged_at : (x : ℕ) → x < length kinds → in_range (get_or vs x (pos 0)) ≡ true
+        pub first_low : All (λ b. b < 65536) (take (length kinds) ds)
+        first_low = All-from_get_or (λ b. b < 65536) (take (length kinds) ds) 0 (λ x h. let less : x < length kinds = omega (arith, length-take-le (length kinds) ds (omega arith)) in rw (get_or-take (length kinds) ds x 0 less) (p.ranged x less))
+
+        ranged_at : (x : ℕ) → x < length kinds → in_range (get_or first_values x (pos 0)) ≡ true
         ranged_at x h = subst (λ (z : ℤ). in_range z ≡ true) (sym (written x h)) (value_range (at ds x) (p.ranged x h))
 
-        row_kept : (k : ℕ) → k < length rows → Kept tenths vs (get_or rows k no_row)
+        row_kept : (k : ℕ) → k < length rows → Kept tenths first_values (get_or rows k no_row)
         row_kept k h =
             let row = get_or rows k no_row in
             let f = row.predicate.form in
             let c = row.predicate.constant in
-            let x = get_or vs row.first (pos 0) in
-            let y = get_or vs row.second (pos 0) in
+            let x = get_or first_values row.first (pos 0) in
+            let y = get_or first_values row.second (pos 0) in
             let placed = All-get_or (Placed (length kinds)) rows k no_row h all_placed in
             let parts = known_parts row.predicate placed.known in
             let means : says f c (value (at ds row.first)) (value (at ds row.second)) ≡ true =
-            ((stands k h).means (at ds) p.zero).1 (All-get_or (Keeps (at ds)) links k no_link (omega arith) p.kept) in
+            ((stands k h).means (at ds) p.zero).1 (All-get_or (Keeps (at ds)) links k no_link (omega (arith, size)) p.kept) in
             let first : says f c x (value (at ds row.second)) ≡ true = subst (λ (z : ℤ). says f c z (value (at ds row.second)) ≡ true) (sym (written row.first placed.first)) means in
             ⊎_elim
             (λ one.
@@ -153,20 +189,16 @@ module _ (kinds : List ℕ) (rows : List Row) (room : ℕ) (accepted : Accepted 
             (subst (λ (z : ℤ). says f c x z ≡ true) (sym (written row.second two)) first))
             placed.second
 
-        pub chosen : Chosen tenths kinds rows vs
+        chosen : Chosen tenths kinds rows first_values
         chosen =
             record {
               one_each = each;
-              of_kind = λ x h. and_from (eqb (get_or kinds x 0) 0) (in_range (get_or vs x (pos 0))) (All-get_or (λ k. eqb k 0 ≡ true) kinds x 0 h accepted.known_kinds) (ranged_at x h);
-              kept = All-from_get_or (Kept tenths vs) rows no_row row_kept;
+              of_kind = λ x h. and_from (eqb (get_or kinds x 0) 0) (in_range (get_or first_values x (pos 0))) (All-get_or (λ k. eqb k 0 ≡ true) kinds x 0 h accepted.known_kinds) (ranged_at x h);
+              kept = All-from_get_or (Kept tenths first_values) rows no_row row_kept;
             }
 
--- what is written is the value that a bound stands for
-pub written_value : (b : ℕ) → b < 65536 → to_z w32 (of_z w32 (to_z w32 b -ℤ pos 32768)) ≡ value b
-written_value b h = omega (arith, ints)
-
--- an answer over so many spots, read over the variables
-pub at_count : (spots n : ℕ) → spots ≡ n + 1 → (links : List Link) (ds : List ℕ) (r b : Bool) → r ≡ b → Lowest (spots - 1) links ds r → Lowest n links ds b
-at_count spots n e links ds r b is h =
-    let m : spots - 1 ≡ n = omega arith in
-    subst (λ (z : ℕ). Lowest z links ds b) m (subst (λ (z : Bool). Lowest (spots - 1) links ds z) is h)
+        -- written to the front of a buffer they are the lowest choice
+        pub chooses : Under links (length kinds) ds → (before after : List ℤ) → after ≡ first_values ++ drop (length (take (length kinds) ds)) before → Chooses kinds rows before after Solved
+        chooses under before after e =
+            let parts = written_front (take (length kinds) ds) before after (length kinds) (length-take-le (length kinds) ds (omega arith)) e in
+            (rw parts.0 chosen, rw parts.0 (lowest_choice under), parts.1)

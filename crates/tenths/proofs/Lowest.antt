@@ -1,70 +1,68 @@
 -- Where the rounds start, and what their end says.
-use Rattle.std.proofs.Common.{◌≡◌, ℕ, ◌-◌, ◌<◌, ◌≤◌, Bool, true, false, List, length, replicate, Decides, sym, refl, ap, ◌∙◌, subst, inl, inr, arith}
-use Rattle.std.proofs.ByRecursion.{All-get_or, All-from_get_or}
-use Rattle.std.proofs.lemmas.List.{get_or-set_same, get_or-set_other, get_or-replicate, length-set, length-replicate}
-use Rattle.std.proofs.lemmas.Bool.{cases_eq, both_ways}
-use Rattle.std.specs.List.{AllByRecursion}
+use Rattle.std.proofs.Common.{◌≡◌, ℕ, ◌+◌, ◌-◌, ◌<◌, ◌≤◌, Bool, true, false, List, [], ◌∷◌, ◌++◌, length, take, replicate, sym, ap, ◌∙◌, inl, inr, arith, length-append}
+use Rattle.std.proofs.Math.ListN.{get_or-append}
+use Rattle.std.proofs.Math.Seq.{get_or-append_seam}
+use Rattle.std.proofs.lemmas.List.{get_or-replicate, length-replicate, take-replicate}
+use Rattle.std.proofs.lemmas.List.Elements.{All-append, All-cons, All-nil, All-replicate, All-from_get_or}
+use Rattle.std.proofs.lemmas.Bool.{cases_eq}
+use Rattle.std.specs.List.{All}
 use Rattle.tenths.specs.declared.links.Link.{Link}
-use Rattle.tenths.specs.Differences.{at, Under}
-use Rattle.tenths.specs.Relaxing.{Low, Rounds, Lowest, started}
+use Rattle.tenths.specs.Differences.{at, Potential, Under}
+use Rattle.tenths.specs.Relaxing.{Low, Rounds, started}
 use Rattle.tenths.proofs.Settling.{ceiling}
 
-pub started_size : (spots : ℕ) → length (started spots) ≡ spots
-started_size spots = length-set (replicate spots 0) (spots - 1) 32768 ∙ length-replicate {A = ℕ} spots 0
+module _ (n : ℕ) where
+  pub started_size : length (started n) ≡ n + 1
+  started_size = length-append (replicate n 0) (32768 ∷ []) ∙ ap (λ m. m + 1) (length-replicate {A = ℕ} n 0)
 
-module _ (spots : ℕ) (some : 0 < spots) where
-  started_zero : at (started spots) (spots - 1) ≡ 32768
-  started_zero = get_or-set_same (replicate spots 0) (spots - 1) 32768 0 (omega (arith, length-replicate {A = ℕ} spots 0))
+  started_zero : at (started n) n ≡ 32768
+  started_zero = ap (λ m. at (started n) m) (sym (length-replicate {A = ℕ} n 0)) ∙ get_or-append_seam (replicate n 0) 32768 [] 0
 
-  started_other : (x : ℕ) → x < spots - 1 → at (started spots) x ≡ 0
-  started_other x h = get_or-set_other (replicate spots 0) (spots - 1) x 32768 0 (λ e. omega arith) ∙ get_or-replicate spots x 0 0 (omega arith)
+  started_other : (x : ℕ) → x < n → at (started n) x ≡ 0
+  started_other x h = get_or-append (replicate n 0) (32768 ∷ []) 0 x (omega (arith, length-replicate {A = ℕ} n 0)) ∙ get_or-replicate n x 0 0 h
 
-  pub started_low : Low (started spots)
+  pub started_low : Low (started n)
   started_low =
-      All-from_get_or (λ b. b ≤ 65536) (started spots) 0
-      (λ x h. let z = started_zero in let size = started_size spots in elim (cases_eq x (spots - 1)) [ inl e ↦ rw e (omega arith) | inr ne ↦ (let o = started_other x (omega arith) in omega arith) ])
+      let low : ℕ → Type 0 = λ b. b ≤ 65536 in
+      All-append low (replicate n 0) (32768 ∷ []) (All-replicate low n 0 (omega arith)) (All-cons low 32768 [] (omega arith) (All-nil low))
 
-  pub started_under : (links : List Link) → Under links (spots - 1) (started spots)
+  pub started_under : (links : List Link) → Under links n (started n)
   started_under links v p x h =
-      let z = started_zero in
-      let u = p.zero in
-      elim (cases_eq x (spots - 1)) [ inl e ↦ rw e (omega arith) | inr ne ↦ (let o = started_other x (omega arith) in omega arith) ]
+      elim (cases_eq x n) [
+        | inl e ↦ rw e (omega (arith, started_zero, p.zero))
+        | inr ne ↦ (let o = started_other x (omega arith) in omega arith)
+      ]
 
-  -- the same of bounds that were set to these
-  module _ (links : List Link) (ds : List ℕ) (e : ds ≡ started spots) where
-    pub ready_size : length ds ≡ spots
-    ready_size = ap length e ∙ started_size spots
+  -- as the bounds are made
+  pub is_started : (zeros some all : List ℕ) → n ≤ 512 → zeros ≡ replicate 513 0 → some ≡ take n zeros → all ≡ some ++ 32768 ∷ [] → all ≡ started n
+  is_started zeros some all few a b c = c ∙ ap (λ (xs : List ℕ). xs ++ 32768 ∷ []) (b ∙ ap (take n) a ∙ take-replicate n 513 0 (omega arith))
 
-    pub ready_low : Low ds
-    ready_low = subst (λ (z : List ℕ). Low z) (sym e) started_low
+  -- the end of rounds over these links, from these bounds
+  module _ (links given : List Link) (ds after : List ℕ) (same : given ≡ links) (e : ds ≡ started n) (size : length after ≡ length ds) (r : Bool) (end : Rounds (length ds - 1) given ds after r) where
+    last : length after - 1 ≡ n
+    last = let s : length ds ≡ n + 1 = ap length e ∙ started_size in omega arith
 
-    pub ready_under : Under links (length ds - 1) ds
-    ready_under = subst (λ (m : ℕ). Under links (m - 1) ds) (sym ready_size) (subst (λ (z : List ℕ). Under links (spots - 1) z) (sym e) (started_under links))
+    over : (b : Bool) → r ≡ b → Rounds n links (started n) after b
+    over b is =
+        let spots : length (started n) - 1 ≡ n = omega (arith, started_size) in
+        let here : Rounds (length (started n) - 1) links (started n) after b = rw (same, e, is) at end in
+        rw spots at here
 
-    ready_zero : at ds (spots - 1) ≡ 32768
-    ready_zero = ap (λ (z : List ℕ). at z (spots - 1)) e ∙ started_zero
+    pub unsettled : r ≡ false → (v : ℕ → ℕ) → Potential n links v → ⊥
+    unsettled f = over false f
 
-    module _ (after : List ℕ) (size : length after ≡ spots) where
-      pub none_lowest : (r : Bool) → r ≡ false → Rounds (length ds - 1) links ds after r → Lowest (spots - 1) links after false
-      none_lowest r f end = subst (λ (m : ℕ). Lowest (m - 1) links after false) ready_size (subst (λ (b : Bool). Rounds (length ds - 1) links ds after b) f end)
+    module _ (t : r ≡ true) where
+      ended : Rounds n links (started n) after true
+      ended = over true t
 
-      module _ (r : Bool) (t : r ≡ true) (given : Rounds (length ds - 1) links ds after r) where
-        end : Rounds (spots - 1) links ds after true
-        end = subst (λ (m : ℕ). Rounds (m - 1) links ds after true) ready_size (subst (λ (b : Bool). Rounds (length ds - 1) links ds after b) t given)
+      -- every link is kept, by bounds below any potential: they are one where they are values of their spots, and else there is none
+      pub is_lowest : (at after (length after - 1) ≡ 32768) × All (λ b. b < 65536) after → Potential n links (at after) × Under links n after
+      is_lowest range =
+          (record { zero = ap (at after) (sym last) ∙ range.0; ranged = λ x h. range.1 x 0 (omega (arith, last)); kept = ended.0 }, ended.1)
 
-        pub zero_raised : (at after (length after - 1) ≡ 32768 → ⊥) → Lowest (spots - 1) links after false
-        zero_raised ne v p =
-            let a = end.1 v p (spots - 1) (omega arith) in
-            let b = end.2 (spots - 1) in
-            let z = ready_zero in
-            let u = p.zero in
-            ne (ap (λ (m : ℕ). at after (m - 1)) size ∙ omega arith)
-
-        pub lowest_decided : at after (length after - 1) ≡ 32768 → (q : Bool) → Decides q (AllByRecursion (λ b. b < 65536) after) → Lowest (spots - 1) links after q
-        lowest_decided zero true d =
-            let all = d.0 refl in
-            (record { zero = ap (λ (m : ℕ). at after (m - 1)) (sym size) ∙ zero; ranged = λ x h. All-get_or (λ b. b < 65536) after x 0 (omega arith) all; kept = end.0 }, end.1)
-        lowest_decided zero false d =
-            λ v p.
-            both_ways false refl
-            (d.1 (All-from_get_or (λ b. b < 65536) after 0 (λ x h. let a = end.1 v p x (omega arith) in let c = ceiling (spots - 1) links v p x (omega arith) in omega arith)))
+      pub in_range : (v : ℕ → ℕ) → Potential n links v → (at after (length after - 1) ≡ 32768) × All (λ b. b < 65536) after
+      in_range v p =
+          let zero : at after n ≡ 32768 = omega (arith, ended.1 v p n (omega arith), ended.2 n, started_zero, p.zero) in (
+            ap (at after) last ∙ zero,
+            All-from_get_or (λ b. b < 65536) after 0 (λ x h. let low = ended.1 v p x (omega (arith, last)) in let top = ceiling n links v p x (omega (arith, last)) in omega arith),
+          )

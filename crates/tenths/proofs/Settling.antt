@@ -3,9 +3,10 @@
 use Rattle.std.proofs.Common.{◌≡◌, ℕ, ◌+◌, ◌-◌, ◌<◌, ◌≤◌, min, Bool, true, false, ◌||◌, eqb, List, length, get_or, set, sym, refl, ap, ◌∙◌, subst, inl, inr, ⊎_elim, arith, below_more}
 use Rattle.std.proofs.lemmas.List.{get_or-set_same, get_or-set_other, length-set}
 use Rattle.std.proofs.lemmas.Bool.{cases_eq, cases_Bool, both_ways, or_cases, or_parts, eqb-true}
-use Rattle.std.specs.List.{AllByRecursion}
+use Rattle.std.proofs.lemmas.List.Elements.{All-contains}
+use Rattle.std.specs.List.{All, Contains}
 use Rattle.tenths.specs.declared.links.Link.{Link}
-use Rattle.tenths.specs.Differences.{at, Keeps, Fair, Potential}
+use Rattle.tenths.specs.Differences.{at, Keeps, Fair, Potential, Under}
 use Rattle.tenths.specs.Relaxing.{no_link, Settled, Settling}
 
 -- no value of a potential reaches the ceiling
@@ -24,7 +25,24 @@ module _ (ds : List ℕ) (h b : ℕ) (inside : h < length ds) where
   raised_grown up x =
       elim (cases_eq x h) [ inl e ↦ (let r = raised_here x e in let q : at ds x ≡ at ds h = ap (at ds) e in omega arith) | inr ne ↦ (let r = raised_other x ne in omega arith) ]
 
-module _ (n : ℕ) (links : List Link) (v : ℕ → ℕ) (p : Potential n links v) (fair : AllByRecursion (Fair (n + 1)) links) where
+-- what a link raises stays below numbers that keep the link
+raised_below :
+    (ds : List ℕ) (l : Link) (v : ℕ → ℕ) → l.head < length ds → Keeps v l → at ds l.tail ≤ v l.tail → (x : ℕ) → at ds x ≤ v x
+    → at (set ds l.head (min 65536 (at ds l.tail + l.weight - 131072))) x ≤ v x
+raised_below ds l v inside kept tail x old =
+    elim (cases_eq x l.head) [
+      | inl e ↦ (let r = raised_here ds l.head (min 65536 (at ds l.tail + l.weight - 131072)) inside x e in let z : v x ≡ v l.head = ap v e in omega arith)
+      | inr ne ↦ (let r = raised_other ds l.head (min 65536 (at ds l.tail + l.weight - 131072)) inside x ne in omega arith)
+    ]
+
+-- and so below every potential
+pub raised_under :
+    (links : List Link) (ds : List ℕ) (l : Link) → Fair (length ds) l → Contains links l → Under links (length ds - 1) ds
+    → Under links (length ds - 1) (set ds l.head (min 65536 (at ds l.tail + l.weight - 131072)))
+raised_under links ds l fair has under v p x h =
+    raised_below ds l v fair.head (All-contains (Keeps v) links l p.kept has) (under v p l.tail (omega (arith, fair.tail))) x (under v p x h)
+
+module _ (n : ℕ) (links : List Link) (v : ℕ → ℕ) (p : Potential n links v) (fair : All (Fair (n + 1)) links) where
   module _ (done : ℕ → Bool) (m i : ℕ) (ds : List ℕ) (q : Settling n links v done m i ds) (h : i < length links) where
     pub settling_kept : Keeps (at ds) (get_or links i no_link) → Settling n links v done m (i + 1) ds
     settling_kept k =
@@ -94,11 +112,8 @@ module _ (n : ℕ) (links : List Link) (v : ℕ → ℕ) (p : Potential n links 
       apart_from x t e = both_ways (done x) (ap done e ∙ head_out) t
 
       below_after : (x : ℕ) → x ≤ n → at after x ≤ v x
-      below_after x y =
-          elim (cases_eq x l.head) [
-            | inl e ↦ (let r = here x e in let z : v x ≡ v l.head = ap v e in let b = q.base.below l.tail (omega (arith, fair-l.tail)) in omega (arith, kept-l))
-            | inr ne ↦ (let r = other x ne in let b = q.base.below x y in omega arith)
-          ]
+      unfolding after
+      below_after x y = raised_below ds l v inside kept-l (q.base.below l.tail (omega (arith, fair-l.tail))) x (q.base.below x y)
 
       -- a gap is no smaller than that at a spot that is unchanged and no larger than the tail's
       wide : (x : ℕ) → (x ≡ l.head → ⊥) → v x + at ds l.tail ≤ v l.tail + at ds x → (y : ℕ) → v x + at ds y ≤ v y + at ds x → v x + at after y ≤ v y + at after x

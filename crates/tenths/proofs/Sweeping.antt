@@ -1,9 +1,10 @@
 -- What one relaxation adds to a round, and what a round adds to the rounds before it.
-use Rattle.std.proofs.Common.{◌≡◌, ℕ, ◌+◌, ◌-◌, ◌<◌, ◌≤◌, min, Bool, true, false, cond, List, length, get_or, set, sym, refl, ap, ◌∙◌, subst, inl, inr, arith, below_more}
-use Rattle.std.proofs.ByRecursion.{All-get_or, All-from_get_or, All-set}
+use Rattle.std.proofs.Common.{◌≡◌, ℕ, ◌+◌, ◌-◌, ◌<◌, ◌≤◌, min, Bool, true, false, ◌||◌, List, length, get_or, set, sym, refl, ap, ◌∙◌, subst, inl, inr, arith, below_more}
+use Rattle.std.proofs.lemmas.List.Elements.{All-get_or, All-from_get_or, All-set}
 use Rattle.std.proofs.lemmas.List.{length-set}
 use Rattle.std.proofs.lemmas.Bool.{cases_Bool, cases_lt, both_ways}
-use Rattle.std.specs.List.{AllByRecursion}
+use Rattle.std.proofs.Math.Bool.{or-false, or-true}
+use Rattle.std.specs.List.{All}
 use Rattle.tenths.specs.declared.links.Link.{Link}
 use Rattle.tenths.specs.Differences.{at, Keeps, Fair, Potential, Under}
 use Rattle.tenths.specs.Relaxing.{no_link, Low, Relaxes, Settled, Settling, Sweep, Rounds}
@@ -14,23 +15,12 @@ pub low_at : (ds : List ℕ) → Low ds → (x : ℕ) → x < length ds → at d
 low_at ds low x h = All-get_or (λ b. b ≤ 65536) ds x 0 h low
 
 module _ (links : List Link) (before : List ℕ) where
-  pub sweep_none : Low before → Sweep links before before 0 false
-  sweep_none low =
-      record {
-        low = low;
-        size = refl;
-        grown = λ x. omega arith;
-        calm = λ _. (refl, λ k h. absurd (omega arith));
-        quiet = λ _. refl;
-        settles = λ n v done m p q. q;
-      }
-
-  module _ (ds after : List ℕ) (i : ℕ) (raised : Bool) (w : Sweep links before ds i raised) (h : i < length links) (fair : AllByRecursion (Fair (length before)) links) where
+  module _ (ds after : List ℕ) (i : ℕ) (raised : Bool) (w : Sweep links before ds i raised) (h : i < length links) (fair : All (Fair (length before)) links) where
     fair_i : Fair (length before) (get_or links i no_link)
     fair_i = All-get_or (Fair (length before)) links i no_link h fair
 
-    fair_in : (n : ℕ) → length ds ≡ n + 1 → AllByRecursion (Fair (n + 1)) links
-    fair_in n e = subst (λ (z : ℕ). AllByRecursion (Fair z) links) (sym w.size ∙ e) fair
+    fair_in : (n : ℕ) → length ds ≡ n + 1 → All (Fair (n + 1)) links
+    fair_in n e = subst (λ (z : ℕ). All (Fair z) links) (sym w.size ∙ e) fair
 
     sweep_kept : Keeps (at ds) (get_or links i no_link) → Sweep links before ds (i + 1) raised
     sweep_kept k =
@@ -67,9 +57,9 @@ module _ (links : List Link) (before : List ℕ) where
         }
 
     -- the next link, relaxed
-    pub sweep_more : (r : Bool) → Relaxes ds (get_or links i no_link) after r → Sweep links before after (i + 1) (cond r true raised)
-    sweep_more false e = subst (λ (z : List ℕ). Sweep links before z (i + 1) raised) (sym e.1) (sweep_kept e.0)
-    sweep_more true e = subst (λ (z : List ℕ). Sweep links before z (i + 1) true) (sym e.1) (sweep_raised e.0)
+    pub sweep_more : (r : Bool) → Relaxes ds (get_or links i no_link) after r → Sweep links before after (i + 1) (raised || r)
+    sweep_more false e = rw (or-false raised, e.1) (sweep_kept e.0)
+    sweep_more true e = rw (or-true raised, e.1) (sweep_raised e.0)
 
 -- after j rounds that raised something: a set is settled, and at most all but j spots are missing from it
 pub record Progress (n : ℕ) (links : List Link) (v : ℕ → ℕ) (ds : List ℕ) (j : ℕ) : Type 0 where
@@ -89,9 +79,9 @@ module _ (n : ℕ) (links : List Link) (v : ℕ → ℕ) (p : Potential n links 
         some = omega arith;
       }
 
-  module _ (fair : AllByRecursion (Fair (n + 1)) links) where
+  module _ (fair : All (Fair (n + 1)) links) where
     -- with at most one spot missing every link is kept
-    all_kept : (done : ℕ → Bool) → Settled n links v done ds → missing done (n + 1) ≤ 1 → AllByRecursion (Keeps (at ds)) links
+    all_kept : (done : ℕ → Bool) → Settled n links v done ds → missing done (n + 1) ≤ 1 → All (Keeps (at ds)) links
     all_kept done s few = All-from_get_or (Keeps (at ds)) links no_link one
       where
         one : (k : ℕ) → k < length links → Keeps (at ds) (get_or links k no_link)
@@ -133,24 +123,22 @@ module _ (n : ℕ) (links : List Link) (v : ℕ → ℕ) (p : Potential n links 
 
 -- j rounds from the bounds `before`, each of which raised something
 pub record Turns (links : List Link) (before ds : List ℕ) (j : ℕ) : Type 0 where
-  pub low : Low ds
   pub size : length ds ≡ length before
   pub grown : (x : ℕ) → at before x ≤ at ds x
   pub progress : (v : ℕ → ℕ) → Potential (length before - 1) links v → Progress (length before - 1) links v ds j
 
 module _ (links : List Link) (before : List ℕ) (some : 0 < length before) where
-  pub turns_none : Low before → Under links (length before - 1) before → Turns links before before 0
-  turns_none low under =
-      record { low = low; size = refl; grown = λ x. omega arith; progress = λ v p. progress_none (length before - 1) links v p before (omega arith) under }
+  pub turns_none : Under links (length before - 1) before → Turns links before before 0
+  turns_none under =
+      record { size = refl; grown = λ x. omega arith; progress = λ v p. progress_none (length before - 1) links v p before (omega arith) under }
 
   module _ (ds after : List ℕ) (j : ℕ) (t : Turns links before ds j) where
-    pub turns_more : AllByRecursion (Fair (length before)) links → (r : Bool) → r ≡ true → Sweep links ds after (length links) r → Turns links before after (j + 1)
+    pub turns_more : All (Fair (length before)) links → (r : Bool) → r ≡ true → Sweep links ds after (length links) r → Turns links before after (j + 1)
     turns_more fair r e w =
         let one : length before ≡ length before - 1 + 1 = omega arith in
-        let fairs : AllByRecursion (Fair (length before - 1 + 1)) links = subst (λ (z : ℕ). AllByRecursion (Fair z) links) one fair in
+        let fairs : All (Fair (length before - 1 + 1)) links = subst (λ (z : ℕ). All (Fair z) links) one fair in
         let raised : Sweep links ds after (length links) true = subst (λ (z : Bool). Sweep links ds after (length links) z) e w in
         record {
-          low = w.low;
           size = w.size ∙ t.size;
           grown = λ x. let a = t.grown x in let b = w.grown x in omega arith;
           progress = λ v p. progress_more (length before - 1) links v p ds fairs j (t.progress v p) after raised;

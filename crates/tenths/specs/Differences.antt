@@ -1,7 +1,7 @@
 -- Difference constraints over numbered spots, and their potentials.
 -- Spots 0 to n - 1 are the variables and spot n is the number 0. A spot's number is 32,768 above the value that it stands for.
 use Rattle.std.specs.Prelude.{◌≡◌, ℕ, ◌+◌, ◌<◌, ◌≤◌, List, slice_index}
-use Rattle.std.specs.List.{AllByRecursion}
+use Rattle.std.specs.List.{All}
 use Rattle.tenths.specs.declared.links.Link.{Link}
 
 -- the number at a spot
@@ -22,7 +22,7 @@ pub record Fair (spots : ℕ) (l : Link) : Type 0 where
 pub record Potential (n : ℕ) (links : List Link) (v : ℕ → ℕ) : Type 0 where
   pub zero : v n ≡ 32768
   pub ranged : (x : ℕ) → x < n → v x < 65536
-  pub kept : AllByRecursion (Keeps v) links
+  pub kept : All (Keeps v) links
 
 -- no potential is lower than these numbers at any spot
 abbrev pub Under : List Link → ℕ → List ℕ → Type 0

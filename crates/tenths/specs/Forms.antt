@@ -6,8 +6,9 @@ use Rattle.std.proofs.lemmas.Int.{ints}
 use Rattle.std.proofs.lemmas.Bool.{both_ways}
 use Rattle.std.proofs.lemmas.Bool.Decides.{nat_tests}
 use Rattle.domain.specs.declared.predicate.Predicate.{Predicate}
+use Rattle.domain.specs.Forms.{turned}
 use Rattle.domain.specs.Meaning.{known}
-use Rattle.tenths.specs.Tenths.{tenths, spoken, places, turned, says}
+use Rattle.tenths.specs.Tenths.{tenths, spoken, places, says}
 
 -- one of the four
 pub data Form (f : ℕ) : Type 0 where

@@ -1,6 +1,7 @@
 -- Relaxation of difference constraints: lower bounds are raised link by link, in rounds.
-use Rattle.std.specs.Prelude.{◌≡◌, ℕ, ◌+◌, ◌-◌, ◌<◌, ◌≤◌, min, Bool, true, false, List, length, get_or, replicate, slice_index_or, slice_set}
-use Rattle.std.specs.List.{AllByRecursion}
+use Rattle.std.specs.Prelude.{◌≡◌, ℕ, ◌+◌, ◌-◌, ◌<◌, ◌≤◌, min, Bool, true, false, List, [], ◌∷◌, ◌++◌, length, get_or, replicate, slice_index_or, slice_set, Option, Some, None}
+use Rattle.std.specs.List.{All}
+use Rattle.arrayvec.specs.ArrayVec.{ArrayVec}
 use Rattle.tenths.specs.declared.links.Link.{Link}
 use Rattle.tenths.specs.Differences.{at, Keeps, Potential, Under}
 
@@ -10,11 +11,11 @@ no_link = record { tail = 0; head = 0; weight = 0 }
 
 -- bounds end at 65,536, which is above every value
 abbrev pub Low : List ℕ → Type 0
-Low ds = AllByRecursion (λ b. b ≤ 65536) ds
+Low ds = All (λ b. b ≤ 65536) ds
 
--- where the bounds of so many spots start: 0 at each variable, and 32,768 at the last spot, which stands for the number 0
+-- where the bounds over n variables start: 0 at each variable, and 32,768 at the last spot, which stands for the number 0
 abbrev pub started : ℕ → List ℕ
-started spots = slice_set (replicate spots 0) (spots - 1) 32768
+started n = replicate n 0 ++ 32768 ∷ []
 
 -- one relaxation: a link that is kept changes nothing, any other raises the bound at its head
 abbrev pub Relaxes : List ℕ → Link → List ℕ → Bool → Type 0
@@ -44,17 +45,17 @@ pub record Sweep (links : List Link) (before after : List ℕ) (i : ℕ) (raised
   -- nothing raised: nothing changed, and these links are kept
   pub calm : raised ≡ false → (after ≡ before) × ((k : ℕ) → k < i → Keeps (at before) (slice_index_or links k no_link))
   -- nothing is raised where every link is kept
-  pub quiet : AllByRecursion (Keeps (at before)) links → raised ≡ false
+  pub quiet : All (Keeps (at before)) links → raised ≡ false
   pub settles :
       (n : ℕ) (v : ℕ → ℕ) (done : ℕ → Bool) (m : ℕ)
       → Potential n links v → Settling n links v done m 0 before → Settling n links v done m i after
 
 -- what rounds over all links end in: every link kept by lower bounds, or no potential at all
 abbrev pub Rounds : ℕ → List Link → List ℕ → List ℕ → Bool → Type 0
-Rounds n links before after true = AllByRecursion (Keeps (at after)) links × Under links n after × ((x : ℕ) → at before x ≤ at after x)
+Rounds n links before after true = All (Keeps (at after)) links × Under links n after × ((x : ℕ) → at before x ≤ at after x)
 Rounds n links before after false = (v : ℕ → ℕ) → Potential n links v → ⊥
 
 -- the lowest potential of all, or none
-abbrev pub Lowest : ℕ → List Link → List ℕ → Bool → Type 0
-Lowest n links ds true = Potential n links (at ds) × Under links n ds
-Lowest n links ds false = (v : ℕ → ℕ) → Potential n links v → ⊥
+abbrev pub Lowest : ℕ → List Link → Option (ArrayVec ℕ) → Type 0
+Lowest n links (Some ds) = Potential n links (at ds.items) × Under links n ds.items
+Lowest n links None = (v : ℕ → ℕ) → Potential n links v → ⊥

@@ -1,6 +1,7 @@
 -- The meaning of Tenths: whole tenths of a degree, their bounds and their differences.
 use Rattle.std.specs.Prelude.{ℕ, Bool, false, cond, ◌&&◌, ◌||◌, ℤ, pos, negsuc, ◌-ℤ◌, ◌==◌, int_le, int_lt}
 use Rattle.domain.specs.declared.predicate.Predicate.{Predicate}
+use Rattle.domain.specs.Forms.{turned}
 use Rattle.domain.specs.Meaning.{Meaning}
 
 -- kind 0 alone, with the values -32,768 to 32,767
@@ -14,10 +15,6 @@ spoken p = p.kind == 0 && (int_le (negsuc 65535) p.constant && int_le p.constant
 -- forms 1 and 2 have one place, forms 3 and 4 two
 abbrev pub places : ℕ → ℕ
 places f = cond (f == 1 || f == 2) 1 (cond (f == 3 || f == 4) 2 0)
-
--- 1 with 2, 3 with 4
-abbrev pub turned : ℕ → ℕ
-turned f = cond (f == 1) 2 (cond (f == 2) 1 (cond (f == 3) 4 3))
 
 -- 1: x ≤ c, 2: x > c, 3: x - y ≤ c, 4: x - y > c
 abbrev pub says : ℕ → ℤ → ℤ → ℤ → Bool

@@ -2,7 +2,7 @@
 #![tactic(auto)]
 
 ghost use Rattle.std.specs.Prelude.{◌≡◌};
-ghost use Rattle.tenths.specs.Tenths.{tenths, in_range, says, turned};
+ghost use Rattle.tenths.specs.Tenths.{tenths, in_range, says};
 ghost use Rattle.tenths.specs.Laws;
 
 mod choose;
@@ -11,8 +11,8 @@ mod links;
 mod relax;
 
 use crate::choose::choose;
-use crate::links::NO_LINK;
-use domain::lists::{MOST_ROWS, MOST_VARIABLES, Words, check_lists};
+use domain::forms::turned_form;
+use domain::lists::{MOST_VARIABLES, Words, check_lists};
 use domain::{Domain, Outcome, Predicate, Refusal, Row, Sample};
 
 // A spot for each variable, and one for the number 0.
@@ -83,23 +83,16 @@ impl Domain for Tenths {
         values: &mut [i32],
     ) -> Result<Outcome, Refusal> {
         check_lists(self, kinds, rows, values.len())?;
-        let mut links = [NO_LINK; MOST_ROWS];
-        let mut bounds = [0; MOST_SPOTS];
-        Ok(choose(
-            kinds,
-            rows,
-            &mut links[0..rows.len()],
-            &mut bounds[0..kinds.len() + 1],
-            values,
-        ))
+        Ok(choose(kinds, rows, values))
     }
 }
 
-// 1 or 2 for a known predicate, 0 for any other.
+// 1 or 2 for a known predicate, 0 for any other. Forms stay numbers, as the input gives them: an enum would only add a
+// conversion before each match.
 fn arity_of(p: Predicate) -> u32
     ensures { result ≡ tenths.arity p }
 {
-    if p.kind != 0 || p.constant < -65_536 || p.constant > 65_536 {
+    if p.kind != 0 || !(-65_536..=65_536).contains(&p.constant) {
         return 0;
     }
     match p.form {
@@ -112,7 +105,7 @@ fn arity_of(p: Predicate) -> u32
 fn in_range(x: i32) -> bool
     ensures { result ≡ in_range x }
 {
-    x >= -32_768 && x <= 32_767
+    (-32_768..=32_767).contains(&x)
 }
 
 // Whether the form with its constant holds of x, or of x and y in this order. The difference of two values of 32 bits is
@@ -120,25 +113,13 @@ fn in_range(x: i32) -> bool
 fn holds(p: Predicate, x: i32, y: i32) -> bool
     ensures { result ≡ says p.form p.constant x y }
 {
-    let difference = x as i64 - y as i64;
+    let difference = i64::from(x) - i64::from(y);
     match p.form {
         1 => x <= p.constant,
         2 => x > p.constant,
-        3 => difference <= p.constant as i64,
-        4 => difference > p.constant as i64,
+        3 => difference <= i64::from(p.constant),
+        4 => difference > i64::from(p.constant),
         _ => false,
-    }
-}
-
-// The form that holds where this one does not.
-fn turned_form(form: u32) -> u32
-    ensures { result ≡ turned form }
-{
-    match form {
-        1 => 2,
-        2 => 1,
-        3 => 4,
-        _ => 3,
     }
 }
 

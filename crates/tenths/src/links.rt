@@ -1,26 +1,36 @@
 // Rows as links: one kind of constraint, on the difference of two spots.
-ghost use Rattle.std.specs.Prelude.{◌≡◌, ℕ, ◌<◌, length, slice_index_or};
-ghost use Rattle.std.specs.List.{AllByRecursion};
-ghost use Rattle.domain.proofs.Failing.{no_row};
-ghost use Rattle.tenths.specs.Relaxing.{no_link};
+ghost use Rattle.std.specs.Prelude.{◌≡◌, ◌≤◌, pos, negsuc, ◌+ℤ◌, ◌≤ℤ◌, length};
+ghost use Rattle.std.specs.List.{All, AllZip};
 ghost use Rattle.tenths.specs.Rows.{Placed, Stands};
 
+use arrayvec::ArrayVec;
 use domain::Row;
+use domain::lists::MOST_ROWS;
 
 // The number at `head` is at least the number at `tail` plus the weight, which is stored 131,072 higher.
-#[derive(Clone, Copy)]
+#[derive(Clone, Copy, Default)]
 pub struct Link {
     pub tail: usize,
     pub head: usize,
     pub weight: u32,
 }
 
-// A link before there is one.
-pub const NO_LINK: Link = Link {
-    tail: 0,
-    head: 0,
-    weight: 0,
-};
+impl Link {
+    // The weight is given as it is.
+    fn new(tail: usize, head: usize, weight: i32) -> Link
+        requires low { negsuc 131071 ≤ℤ weight }
+        requires high { weight ≤ℤ pos 131072 }
+        ensures tail { result.tail ≡ tail }
+        ensures head { result.head ≡ head }
+        ensures weight { pos result.weight ≡ weight +ℤ pos 131072 }
+    {
+        Link {
+            tail,
+            head,
+            weight: (weight + 131_072) as u32,
+        }
+    }
+}
 
 // The link that says what the row says, where spot `zero` stands for the number 0.
 fn link_of(row: Row, zero: usize) -> Link
@@ -28,39 +38,23 @@ fn link_of(row: Row, zero: usize) -> Link
     ensures { Stands zero row result }
 {
     let constant = row.predicate.constant;
-    let at_most = (131_072 - constant) as u32;
-    let above = (131_073 + constant) as u32;
     match row.predicate.form {
-        1 => Link {
-            tail: row.first,
-            head: zero,
-            weight: at_most,
-        },
-        2 => Link {
-            tail: zero,
-            head: row.first,
-            weight: above,
-        },
-        3 => Link {
-            tail: row.first,
-            head: row.second,
-            weight: at_most,
-        },
-        _ => Link {
-            tail: row.second,
-            head: row.first,
-            weight: above,
-        },
+        1 => Link::new(row.first, zero, -constant),
+        2 => Link::new(zero, row.first, constant + 1),
+        3 => Link::new(row.first, row.second, -constant),
+        _ => Link::new(row.second, row.first, constant + 1),
     }
 }
 
-// Writes the link of each row.
-pub fn fill_links(rows: &[Row], zero: usize, links: &mut [Link])
-    requires placed { AllByRecursion (Placed zero) rows.now }
-    requires room { length links.old ≡ length rows.now }
-    ensures { (k : ℕ) → k < length rows.now → Stands zero (slice_index_or rows.now k no_row) (slice_index_or links.new k no_link) }
+// The link of each row, in order.
+pub fn links_of(rows: &[Row], zero: usize) -> ArrayVec<Link, MOST_ROWS>
+    requires few { length rows.now ≤ 256 }
+    requires placed { All (Placed zero) rows.now }
+    ensures { AllZip (Stands zero) rows.now result.items }
 {
-    for (i, row) in rows.iter().enumerate() {
-        links[i] = link_of(*row, zero);
+    let mut links = ArrayVec::new();
+    for row in rows {
+        links.push(link_of(*row, zero));
     }
+    links
 }

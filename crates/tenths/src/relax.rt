@@ -1,10 +1,12 @@
 // Lower bounds for the spots, raised link by link in rounds until every link is kept.
-ghost use Rattle.std.specs.Prelude.{◌≡◌, ◌-◌, ◌<◌, length, Decides};
-ghost use Rattle.std.specs.List.{AllByRecursion};
-ghost use Rattle.tenths.specs.Differences.{Fair, Under};
+ghost use Rattle.std.specs.Prelude.{◌≡◌, ◌+◌, ◌-◌, ◌<◌, ◌≤◌, length, Decides, IfSome};
+ghost use Rattle.std.specs.List.{All, Contains};
+ghost use Rattle.tenths.specs.Differences.{at, Fair, Under};
 ghost use Rattle.tenths.specs.Relaxing.{Low, Relaxes, Sweep, Rounds, Lowest, started};
 
+use crate::MOST_SPOTS;
 use crate::links::Link;
+use arrayvec::ArrayVec;
 
 // A weight is stored this much higher than it is.
 const SHIFT: u32 = 131_072;
@@ -15,86 +17,92 @@ const CEILING: u32 = 65_536;
 // What stands for the number 0.
 const ZERO: u32 = 32_768;
 
-// Relaxes one link, and tells whether it was not kept.
-fn relax(bounds: &mut [u32], link: Link) -> bool
-    requires low { Low bounds.old }
-    requires fair { Fair (length bounds.old) link }
-    ensures { Relaxes bounds.old link bounds.new result }
-{
-    let least = bounds[link.tail] + link.weight;
-    if least <= bounds[link.head] + SHIFT {
-        return false;
-    }
-    bounds[link.head] = (least - SHIFT).min(CEILING);
-    true
+// A lower bound for each spot, and the links that raise them. The last spot stands for the number 0.
+#[derive(Drop)]
+struct Relaxation<'a> {
+    links: &'a [Link],
+    bounds: ArrayVec<u32, MOST_SPOTS>,
+    ghost low: { Low bounds.items },
+    ghost some: { 0 < length bounds.items },
+    ghost fair: { All (Fair (length bounds.items)) links.now },
+    ghost under: { Under links.now (length bounds.items - 1) bounds.items },
 }
 
-// Relaxes every link once, in order, and tells whether one was not kept.
-fn round(bounds: &mut [u32], links: &[Link]) -> bool
-    requires low { Low bounds.old }
-    requires fair { AllByRecursion (Fair (length bounds.old)) links.now }
-    ensures { Sweep links.now bounds.old bounds.new (length links.now) result }
-{
-    let mut raised = false;
-    for link in links {
-        if relax(bounds, *link) {
-            raised = true;
-        }
+impl<'a> Relaxation<'a> {
+    // The bounds that the rounds start from.
+    fn start(links: &'a [Link], variables: usize) -> Relaxation<'a>
+        requires few { variables ≤ 512 }
+        requires fair { All (Fair (variables + 1)) links.now }
+        ensures links { result.links.now ≡ links.now }
+        ensures bounds { result.bounds.items ≡ started variables }
+    {
+        let mut bounds = ArrayVec::from([0; MOST_SPOTS]);
+        bounds.truncate(variables);
+        bounds.push(ZERO);
+        Relaxation { links, bounds }
     }
-    raised
-}
 
-// Sweeps until a round raises nothing. With a potential that is after at most as many rounds as there are spots; else there is
-// none.
-fn settle(bounds: &mut [u32], links: &[Link]) -> bool
-    requires low { Low bounds.old }
-    requires fair { AllByRecursion (Fair (length bounds.old)) links.now }
-    requires some { 0 < length bounds.old }
-    requires under { Under links.now (length bounds.old - 1) bounds.old }
-    ensures { Rounds (length bounds.old - 1) links.now bounds.old bounds.new result }
-{
-    for _turn in 0..bounds.len() {
-        if !round(bounds, links) {
-            return true;
-        }
-    }
-    false
-}
-
-// Whether every bound is below the ceiling.
-fn below_ceiling(bounds: &[u32]) -> bool
-    ensures { Decides result (AllByRecursion (λ b. b < 65536) bounds.now) }
-{
-    for bound in bounds {
-        if *bound >= CEILING {
+    // Relaxes one of the links, and tells whether it was not kept.
+    fn relax(&mut self, link: Link) -> bool
+        requires { Contains self.old.links.now link }
+        ensures links { self.new.links ≡ self.old.links }
+        ensures bounds { Relaxes self.old.bounds.items link self.new.bounds.items result }
+    {
+        let least = self.bounds[link.tail] + link.weight;
+        if least <= self.bounds[link.head] + SHIFT {
             return false;
         }
+        self.bounds[link.head] = (least - SHIFT).min(CEILING);
+        true
     }
-    true
+
+    // Relaxes every link once, in order, and tells whether one was not kept.
+    fn round(&mut self) -> bool
+        ensures links { self.new.links ≡ self.old.links }
+        ensures bounds { Sweep self.old.links.now self.old.bounds.items self.new.bounds.items (length self.old.links.now) result }
+    {
+        let mut raised = false;
+        for link in self.links {
+            raised |= self.relax(*link);
+        }
+        raised
+    }
+
+    // Sweeps until a round raises nothing. With a potential that is after at most as many rounds as there are spots; else
+    // there is none.
+    fn settle(&mut self) -> bool
+        ensures links { self.new.links ≡ self.old.links }
+        ensures spots { length self.new.bounds.items ≡ length self.old.bounds.items }
+        ensures bounds { Rounds (length self.old.bounds.items - 1) self.old.links.now self.old.bounds.items self.new.bounds.items result }
+    {
+        for _turn in 0..self.bounds.len() {
+            if !self.round() {
+                return true;
+            }
+        }
+        false
+    }
 }
 
-// Writes the bounds that the rounds start from.
-fn start(bounds: &mut [u32])
-    requires { 0 < length bounds.old }
-    ensures { bounds.new ≡ started (length bounds.old) }
+// Whether the bounds are values of their spots: the last is the number 0, and none reaches the ceiling.
+fn in_range(bounds: &[u32]) -> bool
+    requires { 0 < length bounds.now }
+    ensures { Decides result ((at bounds.now (length bounds.now - 1) ≡ 32768) × All (λ b. b < 65536) bounds.now) }
 {
-    let zero = bounds.len() - 1;
-    bounds.fill(0);
-    bounds[zero] = ZERO;
+    bounds[bounds.len() - 1] == ZERO && bounds.iter().all(|bound| *bound < CEILING)
 }
 
-// The lowest potential of the links, or false where there is none.
-pub fn lowest(bounds: &mut [u32], links: &[Link]) -> bool
-    requires fair { AllByRecursion (Fair (length bounds.old)) links.now }
-    requires some { 0 < length bounds.old }
-    ensures { Lowest (length bounds.old - 1) links.now bounds.new result }
+// The lowest potential of the links over so many variables, if there is one.
+pub fn lowest(links: &[Link], variables: usize) -> Option<ArrayVec<u32, MOST_SPOTS>>
+    requires few { variables ≤ 512 }
+    requires fair { All (Fair (variables + 1)) links.now }
+    ensures spots { IfSome result (λ bounds. length bounds.items ≡ variables + 1) }
+    ensures lowest { Lowest variables links.now result }
 {
-    start(bounds);
-    if !settle(bounds, links) {
-        return false;
+    let mut relaxation = Relaxation::start(links, variables);
+    if relaxation.settle() && in_range(&relaxation.bounds) {
+        Some(relaxation.bounds)
+    } else {
+        None
     }
-    if bounds[bounds.len() - 1] != ZERO {
-        return false;
-    }
-    below_ceiling(bounds)
 }

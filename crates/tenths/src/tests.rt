@@ -7,19 +7,11 @@ use std::test::Fail;
 const LOW: i32 = -32_768;
 
 fn form(form: u32, constant: i32) -> Predicate {
-    Predicate {
-        kind: 0,
-        form,
-        constant,
-    }
+    Predicate::new(0, form, constant)
 }
 
 fn row(number: u32, constant: i32, first: usize, second: usize) -> Row {
-    Row {
-        predicate: form(number, constant),
-        first,
-        second,
-    }
+    Row::new(form(number, constant), first, second)
 }
 
 // Two variables under three rows: their lowest values, or none, and a third entry of the buffer that stays.

@@ -5,4 +5,4 @@ use Rattle.marks.proofs.Sets.{has_only}
 use Rattle.marks.proofs.bits.only.Goals as goal
 
 pub returns : goal.returns
-returns c y = ap (λ m. has m y) (one_shl c.args.x 16 c.requires) ∙ has_only c.args.x y
+returns c y = ap (λ m. has m y) (one_shl c.args.mark.number 16 c.args.mark.known) ∙ has_only c.args.mark.number y

@@ -1,46 +1,46 @@
-use Rattle.std.proofs.Common.{length, refl}
-use Rattle.std.proofs.lemmas.List.{get_or-replicate}
-use Rattle.marks.proofs.Choosing.{allowed_equal, allowed_unequal, front_listed, none_allowed, some_allowed}
+use Rattle.std.proofs.Common.{◌≡◌, ℕ, get_or, MatchOption, List, None, Option, sym, subst, rules}
+use Rattle.domain.specs.declared.predicate.Row.{Row}
+use Rattle.marks.specs.Choices.{Hopeless, Settled}
+use Rattle.marks.specs.Rows.{Allowed}
+use Rattle.marks.proofs.Choosing.{allowed_equal, allowed_unequal, none_allowed, some_allowed}
 use Rattle.marks.proofs.choose.choose.Goals as goal
 
-pub gather-requires : goal.gather-requires
-gather-requires c = record { listed = c.join.ensures.listed; blank = λ v l. get_or-replicate 512 v 65535 0 l }
+none_to_find :
+    (sets : List ℕ) (rows : List Row) (r : Option (List ℕ)) → r ≡ None → ((f : ℕ → ℕ) → Allowed sets rows f → ⊥)
+    → MatchOption r ((f : ℕ → ℕ) → Allowed sets rows f → ⊥) (λ choice. Allowed sets rows (λ v. get_or choice v 0))
+none_to_find sets rows r e none = subst (λ r. MatchOption r ((f : ℕ → ℕ) → Allowed sets rows f → ⊥) (λ choice. Allowed sets rows (λ v. get_or choice v 0))) (sym e) none
 
-pub returns-then-not-gather : goal.returns-then-not-gather
-returns-then-not-gather c f a =
-    c.if-not-gather.ensures f (c.join.ensures.rooted f (allowed_equal c.args.sets.now c.args.rows.now f a)) a.within
+pub returns-in_err-joined : goal.returns-in_err-joined
+returns-in_err-joined c =
+    none_to_find c.args.sets.now c.args.rows.now.list.now _ c.from_residual.ensures
+    (λ f a. c.in_err-joined.ensures f (c.join-roots.ensures.rooted f (allowed_equal c.args.sets.now c.args.rows.now.list.now f a)) a.within)
 
-pub returns-in_default : goal.returns-in_default
-returns-in_default c f a =
-    c.in_default.ensures f
-    (allowed_unequal c.args.sets.now c.args.rows.now f a c.join.new.roots
-    (c.join.ensures.rooted f (allowed_equal c.args.sets.now c.args.rows.now f a)) c.requires.ready)
-
-pub any_crowded-requires : goal.any_crowded-requires
-any_crowded-requires c =
-    front_listed c.args.rows.now c.join.new.roots (length c.args.rows.now) c.list_pairs.new.pairs c.in-Some.few c.in-Some.ensures c.requires.few
+pub returns-in_err-pairs : goal.returns-in_err-pairs
+returns-in_err-pairs c =
+    none_to_find c.args.sets.now c.args.rows.now.list.now _ c.from_residual-in_err-pairs.ensures
+    (λ f a. c.in_err-pairs.ensures f
+    (allowed_unequal c.args.sets.now c.args.rows.now.list.now f a c.join-roots.result.of
+    (c.join-roots.ensures.rooted f (allowed_equal c.args.sets.now c.args.rows.now.list.now f a)) c.args.rows.now.ready))
 
 pub returns-then-any_crowded : goal.returns-then-any_crowded
 returns-then-any_crowded c =
-    none_allowed c.args.sets.now c.args.rows.now c.join.new.roots c.gather.new.joined c.list_pairs.new.pairs c.in-Some.few
-    c.join.ensures c.if-not-gather.ensures c.in-Some.ensures c.requires.ready c.requires.few (c.if-any_crowded.ensures refl)
+    none_allowed c.args.sets.now c.args.rows.now.list.now c.join-roots.result.of c.in_ok-joined.joined c.in_ok-pairs.pairs.items
+    c.join-roots.ensures c.in_ok-joined.ensures c.in_ok-pairs.ensures c.args.rows.now.ready
+    (subst (Hopeless c.in_ok-joined.joined) c.deref.ensures.0 c.if-any_crowded.ensures)
 
 pub search-requires : goal.search-requires
-search-requires c = record {
-  listed = front_listed c.args.rows.now c.join.new.roots (length c.args.rows.now) c.list_pairs.new.pairs c.in-Some.few c.in-Some.ensures c.requires.few;
-  full = c.if-not-gather.ensures.full;
-}
+search-requires c = c.in_ok-joined.ensures.full
 
-pub returns-then-not-search : goal.returns-then-not-search
-returns-then-not-search c =
-    none_allowed c.args.sets.now c.args.rows.now c.join.new.roots c.gather.new.joined c.list_pairs.new.pairs c.in-Some.few
-    c.join.ensures c.if-not-gather.ensures c.in-Some.ensures c.requires.ready c.requires.few c.if-not-search.ensures
-
-pub read_off-requires : goal.read_off-requires
-read_off-requires c = c.join.ensures.listed
+pub returns-in_err-settled : goal.returns-in_err-settled
+returns-in_err-settled c =
+    none_to_find c.args.sets.now c.args.rows.now.list.now _ c.from_residual-in_err-settled.ensures
+    (none_allowed c.args.sets.now c.args.rows.now.list.now c.join-roots.result.of c.in_ok-joined.joined c.in_ok-pairs.pairs.items
+    c.join-roots.ensures c.in_ok-joined.ensures c.in_ok-pairs.ensures c.args.rows.now.ready
+    (subst (Hopeless c.in_ok-joined.joined) c.deref-2.ensures.0 c.in_err-settled.ensures))
 
 pub returns : goal.returns
 returns c =
-    some_allowed c.args.sets.now c.args.rows.now c.join.new.roots c.gather.new.joined c.list_pairs.new.pairs c.in-Some.few
-    c.join.ensures c.if-not-gather.ensures c.in-Some.ensures c.requires.ready c.requires.few
-    c.search.new.sets c.read_off.new.choice c.told-sets c.search.array_long c.if-not-search.ensures c.read_off.ensures
+    some_allowed c.args.sets.now c.args.rows.now.list.now c.join-roots.result.of c.in_ok-joined.joined c.in_ok-pairs.pairs.items
+    c.join-roots.ensures c.in_ok-joined.ensures c.in_ok-pairs.ensures c.args.rows.now.ready
+    c.in_ok-settled.settled c.read_off.result c.told-sets (search rules)
+    (subst (λ ps. Settled c.in_ok-joined.joined ps c.in_ok-settled.settled) c.deref-2.ensures.0 c.in_ok-settled.ensures) c.read_off.ensures

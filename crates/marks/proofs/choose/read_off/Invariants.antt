@@ -6,4 +6,4 @@ use Rattle.marks.proofs.choose.read_off.Given as goal
 
 abbrev pub invariant-loop-v : goal.invariant-loop-v
 invariant-loop-v l =
-    (length l.choice ≡ 512) × ((w : ℕ) → w < l.v → get_or l.choice w 0 ≡ count_trailing_zeros 16 (set_of l.joined (root_of l.roots w)))
+    (length l.choice ≡ 512) × ((w : ℕ) → w < l.v → get_or l.choice w 0 ≡ count_trailing_zeros 16 (set_of l.joined (root_of l.roots.of w)))

@@ -8,7 +8,7 @@ loop-size-init c = (
   λ i. i,
   no_members c.args.sets.now c.args.apart.now,
   none_near c.args.apart.now (replicate 512 0) (λ w l. get_or-replicate 512 w 0 0 l),
-  candidate_new (replicate 512 0) 0 _ c.args.seed refl c.requires.seed (get_or-replicate 512 c.args.seed 0 0 c.requires.seed),
+  candidate_new (replicate 512 0) 0 _ c.args.seed refl c.requires (get_or-replicate 512 c.args.seed 0 0 c.requires),
 )
 
 pub offset_bounds-sets-v : goal.offset_bounds-sets-v
@@ -18,7 +18,7 @@ pub bounds-sets-v : goal.bounds-sets-v
 bounds-sets-v c = let v = (c.loop-size.invariant.3 c.in-Some.v c.in-Some.is).0 in omega arith
 
 pub returns-then-union-size : goal.returns-then-union-size
-returns-then-union-size c _ =
+returns-then-union-size c =
     let inv = c.loop-size.invariant in
     let v = inv.3 c.in-Some.v c.in-Some.is in
     crowd_refuted c.args.sets.now c.args.apart.now (joined_by inv.0 c.loop-size.size c.in-Some.v) c.loop-size.size _

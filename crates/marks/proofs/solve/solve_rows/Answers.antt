@@ -1,31 +1,28 @@
-use Rattle.std.proofs.Common.{length, refl, arith}
-use Rattle.std.proofs.lemmas.List.{get_or-replicate}
+use Rattle.std.proofs.Common.{length, refl, sym, subst, rules}
+use Rattle.std.proofs.lemmas.List.{take_at, drop_at}
+use Rattle.domain.specs.Solving.{Chosen}
+use Rattle.marks.specs.Marks.{marks}
 use Rattle.marks.proofs.Solving.{accepted_ready, chosen_allowed, allowed_chosen}
 use Rattle.marks.proofs.solve.solve_rows.Goals as goal
 
-pub allow-requires : goal.allow-requires
-allow-requires c = record {
-  ready = accepted_ready c.args.kinds.now c.args.rows.now (length c.args.values.now) c.requires.accepted;
-  blank = λ v l. get_or-replicate 512 v 65535 0 l;
-}
-
-pub choose-requires : goal.choose-requires
-choose-requires c = record {
+pub invariant_of-ready : goal.invariant_of-ready
+invariant_of-ready c = record {
   ready = accepted_ready c.args.kinds.now c.args.rows.now (length c.args.values.now) c.requires.accepted;
   few = c.requires.accepted.few_rows;
 }
 
-pub returns-then-not-choose : goal.returns-then-not-choose
-returns-then-not-choose c = (
+pub returns-in-None : goal.returns-in-None
+returns-in-None c = (
   c.requires.admitted,
-  (λ vs ch. c.if-not-choose.ensures _ (chosen_allowed c.args.kinds.now c.args.rows.now (length c.args.values.now) c.requires.accepted c.allow.new.sets c.allow.ensures vs ch)),
+  (λ vs ch. c.in-None.ensures _ (chosen_allowed c.args.kinds.now c.args.rows.now (length c.args.values.now) c.requires.accepted c.allow-sets.result c.allow-sets.ensures vs ch)),
   refl,
 )
 
-pub returns : goal.returns
-returns c = (
+pub returns-in-Some : goal.returns-in-Some
+returns-in-Some c = (
   c.requires.admitted,
-  allowed_chosen c.args.kinds.now c.args.rows.now (length c.args.values.now) c.requires.accepted c.allow.new.sets c.allow.ensures
-      c.choose.new.choice c.if-not-choose.ensures c.write_values.new.values (omega arith) c.write_values.ensures.written,
-  c.write_values.ensures.rest,
+  subst (Chosen marks c.args.kinds.now c.args.rows.now) (sym (take_at c.write_values.new.values _ _ (search rules)))
+      (allowed_chosen c.args.kinds.now c.args.rows.now (length c.args.values.now) c.requires.accepted c.allow-sets.result c.allow-sets.ensures
+      c.in-Some.choice c.in-Some.ensures c.write_values.new.values (search rules) (λ v l. c.write_values.ensures v (search rules))),
+  drop_at c.write_values.new.values _ _ (search rules),
 )

@@ -1,9 +1,7 @@
 -- The rows up to this one are dealt.
-use Rattle.std.proofs.Common.{◌≤◌}
-use Rattle.pair.specs.Split.{row_on, moved}
-use Rattle.pair.proofs.Sifting.{Dealing}
+use Rattle.std.proofs.Common.{◌≡◌, take}
+use Rattle.pair.specs.Split.{number, side_rows}
 use Rattle.pair.proofs.split.deal_rows.Given as goal
 
 abbrev pub invariant-loop-row : goal.invariant-loop-row
-invariant-loop-row l =
-    (l.count ≤ l.row-index) × Dealing (moved l.places) (row_on l.side) l.rows l.initial.out l.row-index l.count l.out
+invariant-loop-row l = l.dealt.items ≡ side_rows (number l.side) l.places (take l.row-index l.rows)

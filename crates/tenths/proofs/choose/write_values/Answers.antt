@@ -1,16 +1,15 @@
-use Rattle.std.proofs.Common.{◌≡◌, get_or, set, pos, ◌∙◌, arith, below_more}
-use Rattle.std.proofs.lemmas.List.{get_or-set_same, get_or-set_other, drop-set-lt}
-use Rattle.tenths.specs.Differences.{at}
+use Rattle.std.proofs.Common.{◌≡◌, ℕ, ◌<◌, length, List, ◌++◌, get_or, map, drop, ℤ, pos, sym, ap, ◌∙◌, arith}
+use Rattle.std.proofs.lemmas.List.{get_or-map, length-map}
+use Rattle.std.proofs.lemmas.List.Prefix.{front_from_reads}
 use Rattle.tenths.specs.Rows.{value}
-use Rattle.tenths.proofs.Choosing.{written_value}
 use Rattle.tenths.proofs.choose.write_values.Goals as goal
 
-pub loop-i-preserved : goal.loop-i-preserved
-loop-i-preserved c =
-    let i = c.loop-i.i in
-    let vs = c.loop-i.values in (
-      below_more (λ x. get_or (set vs i _) x (pos 0) ≡ value (at c.args.bounds.now x)) i
-          (λ x h. get_or-set_other vs i x _ (pos 0) (λ e. omega arith) ∙ c.loop-i.invariant.0 x h)
-          (get_or-set_same vs i _ (pos 0) (omega arith) ∙ written_value (at c.args.bounds.now i) (c.requires.low i c.loop-i-test.true)),
-      drop-set-lt c.args.count vs i _ c.loop-i-test.true ∙ c.loop-i.invariant.1,
-    )
+pub returns : goal.returns
+returns c =
+    let bounds = c.args.bounds.now in
+    let size : length (map value bounds) ≡ length bounds = length-map bounds value in
+    let written : (x : ℕ) → x < length (map value bounds) → get_or c.loop-i.values x (pos 0) ≡ get_or (map value bounds) x (pos 0) =
+    λ x h. c.loop-i.invariant.0 x (omega arith) ∙ sym (get_or-map value bounds x 0 (pos 0) (omega arith)) in
+    let front = front_from_reads (pos 0) c.loop-i.values (map value bounds) (omega arith) written in
+    let whole : c.loop-i.values ≡ map value bounds ++ drop (length bounds) c.loop-i.values = rw size at front in
+    whole ∙ ap (λ (xs : List ℤ). map value bounds ++ xs) c.loop-i.invariant.1

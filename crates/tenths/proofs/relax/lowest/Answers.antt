@@ -1,28 +1,28 @@
-use Rattle.std.proofs.Common.{ℕ, length, sym, subst, arith, rules}
-use Rattle.std.specs.List.{AllByRecursion}
-use Rattle.tenths.specs.Differences.{Fair}
-use Rattle.tenths.proofs.Lowest.{ready_size, ready_low, ready_under, none_lowest, zero_raised, lowest_decided}
+use Rattle.std.proofs.Common.{◌≡◌, ◌-◌, ◌<◌, length, ap, ◌∙◌}
+use Rattle.std.proofs.lemmas.Bool.{both_ways}
+use Rattle.std.specs.List.{All}
+use Rattle.tenths.specs.Differences.{at}
+use Rattle.tenths.proofs.Lowest.{started_size, is_lowest, in_range, unsettled}
 use Rattle.tenths.proofs.relax.lowest.Goals as goal
+use Rattle.tenths.proofs.relax.lowest.Goals.{else-settle-via-then-settle+else-in_range, else-settle-via-else-settle}
 
-pub settle-requires : goal.settle-requires
-settle-requires c =
-    let spots = length c.args.bounds.now in
-    let size = ready_size spots c.requires.some c.args.links.now c.start.new.bounds c.start.ensures in
-    record {
-      low = ready_low spots c.requires.some c.args.links.now c.start.new.bounds c.start.ensures;
-      fair = subst (λ (z : ℕ). AllByRecursion (Fair z) c.args.links.now) (sym size) c.requires.fair;
-      some = omega (arith, size, c.requires.some);
-      under = ready_under spots c.requires.some c.args.links.now c.start.new.bounds c.start.ensures;
-    }
+pub returns-then-in_range-clause-spots : goal.returns-then-in_range-clause-spots
+returns-then-in_range-clause-spots c = c.settle.ensures.spots ∙ (ap length c.start-relaxation.ensures.bounds ∙ started_size c.args.variables)
 
-pub returns-then-not-settle : goal.returns-then-not-settle
-returns-then-not-settle c =
-    none_lowest (length c.args.bounds.now) c.requires.some c.args.links.now c.start.new.bounds c.start.ensures c.settle.new.bounds (search rules) c.settle.result c.if-not-settle.true c.settle.ensures
+pub returns-then-in_range-clause-lowest : goal.returns-then-in_range-clause-lowest
+returns-then-in_range-clause-lowest c =
+    let first = c.start-relaxation.result in
+    let after = c.settle.new.self.bounds.items in
+    let range : (at after (length after - 1) ≡ 32768) × All (λ b. b < 65536) after = rw c.deref.ensures.0 at (c.in_range.ensures.0 c.if-in_range.true) in
+    is_lowest c.args.variables c.args.links.now first.links.now first.bounds.items after c.start-relaxation.ensures.links c.start-relaxation.ensures.bounds c.settle.ensures.spots c.settle.result c.settle.ensures.bounds c.if-settle.true range
 
-pub returns-then-bounds-ne-ZERO : goal.returns-then-bounds-ne-ZERO
-returns-then-bounds-ne-ZERO c =
-    zero_raised (length c.args.bounds.now) c.requires.some c.args.links.now c.start.new.bounds c.start.ensures c.settle.new.bounds (search rules) c.settle.result c.if-not-settle.false c.settle.ensures c.if-bounds-ne-ZERO.true
-
-pub returns : goal.returns
-returns c =
-    lowest_decided (length c.args.bounds.now) c.requires.some c.args.links.now c.start.new.bounds c.start.ensures c.settle.new.bounds (search rules) c.settle.result c.if-not-settle.false c.settle.ensures c.if-bounds-ne-ZERO.false c.below_ceiling.result c.below_ceiling.ensures
+pub returns-else-settle-clause-lowest : goal.returns-else-settle-clause-lowest
+returns-else-settle-clause-lowest c v p =
+    let first = c.start-relaxation.result in
+    let after = c.settle.new.self.bounds.items in
+    elim c.else-settle.branch [
+      | else-settle-via-then-settle+else-in_range w ↦
+          (let range = in_range c.args.variables c.args.links.now first.links.now first.bounds.items after c.start-relaxation.ensures.links c.start-relaxation.ensures.bounds c.settle.ensures.spots c.settle.result c.settle.ensures.bounds w.if-settle.true v p in
+          both_ways w.in_range.result w.if-in_range.false (w.in_range.ensures.1 (rw w.deref.ensures.0 range)))
+      | else-settle-via-else-settle w ↦ unsettled c.args.variables c.args.links.now first.links.now first.bounds.items after c.start-relaxation.ensures.links c.start-relaxation.ensures.bounds c.settle.ensures.spots c.settle.result c.settle.ensures.bounds w.if-settle.false v p
+    ]
