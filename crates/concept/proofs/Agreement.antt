@@ -9,7 +9,8 @@ use Rattle.concept.specs.Concepts.Concept.{atom, neg, conj, disj, some, all, has
 use Rattle.concept.specs.Plants.{Plant, Proper, onward, walk, reading, leads_to, related, defined, of_one, of_two, inside}
 use Rattle.concept.specs.Normal.{undefined, not_holds, normal, negated}
 use Rattle.concept.specs.Agreement.{Agreement}
-use Rattle.concept.proofs.Tests.{not_not, not_and, not_or, not_false_or, or_false, any_same, all_same, all_not, any_not, all_true, all_at}
+use Rattle.std.proofs.Math.Bool.{not-not, or-false, true-or}
+use Rattle.concept.proofs.Tests.{not_and, not_or, any_same, all_same, all_not, any_not, all_true, all_at}
 
 some_onward : (o : Option ℕ) → is_some (onward o (λ x. Some x)) ≡ is_some o
 some_onward None = refl
@@ -34,7 +35,7 @@ module _ (m : Meaning) (kinds : List ℕ) (plant : Plant) (proper : Proper m kin
   module _ {A : Type 0} (f x : ℕ) (c : Concept) (l : is_link f ≡ true) (rest : ℕ → Option A) (h : (y : ℕ) → inside m plant c y ≡ not (is_some (rest y))) where
     along : (o : Option ℕ) → plant.linked f x ≡ o → inside m plant (all f c) x ≡ not (is_some (onward o rest))
     along None e =
-        all_true _ plant.count (λ y. ap (λ b. not b || inside m plant c y) (link_related f x y l ∙ ap (λ o. leads_to o y) e) ∙ not_false_or (inside m plant c y))
+        all_true _ plant.count (λ y. ap (λ b. not b || inside m plant c y) (link_related f x y l ∙ ap (λ o. leads_to o y) e) ∙ true-or (inside m plant c y))
     along (Some z) e =
         all_same _ _ plant.count (λ y. ap (λ b. not b || inside m plant c y) (link_related f x y l ∙ ap (λ o. leads_to o y) e))
         ∙ (all_at z (inside m plant c) plant.count (proper.links f x z e) ∙ h z)
@@ -75,12 +76,12 @@ module _ (m : Meaning) (kinds : List ℕ) (plant : Plant) (proper : Proper m kin
   not_same test None None = refl
   not_same test None (Some b) = refl
   not_same test (Some a) None = refl
-  not_same test (Some a) (Some b) = or_false (not (test a b))
+  not_same test (Some a) (Some b) = or-false (not (test a b))
 
   not_one :
       (p q : ℤ → Bool) (o : Option ℤ) → ((a : ℤ) → o ≡ Some a → q a ≡ not (p a)) → (of_one q o || not (is_some o)) ≡ not (of_one p o)
   not_one p q None h = refl
-  not_one p q (Some a) h = or_false (q a) ∙ h a refl
+  not_one p q (Some a) h = or-false (q a) ∙ h a refl
 
   not_two :
       (p q : ℤ → ℤ → Bool) (o r : Option ℤ) → ((a b : ℤ) → o ≡ Some a → r ≡ Some b → q a b ≡ not (p a b))
@@ -88,7 +89,7 @@ module _ (m : Meaning) (kinds : List ℕ) (plant : Plant) (proper : Proper m kin
   not_two p q None None h = refl
   not_two p q None (Some b) h = refl
   not_two p q (Some a) None h = refl
-  not_two p q (Some a) (Some b) h = or_false (q a b) ∙ h a b refl refl
+  not_two p q (Some a) (Some b) h = or-false (q a b) ∙ h a b refl refl
 
   module _ (lawful : Lawful m) (p : Predicate) (u v : List ℕ) (x : ℕ) where
     known_from : (n : ℕ) → 0 < n → eqb (m.arity p) n ≡ true → known m p ≡ true
@@ -139,7 +140,7 @@ module _ (m : Meaning) (kinds : List ℕ) (plant : Plant) (proper : Proper m kin
         (c : Concept) → formed m kinds c ≡ true → (x : ℕ)
         → (inside m plant (normal m c) x ≡ inside m plant c x) × (inside m plant (negated m c) x ≡ not (inside m plant c x))
     agree (atom n) f x = (refl, refl)
-    agree (neg c) f x = let h = agree c f x in (h.1, h.0 ∙ sym (not_not (inside m plant c x)))
+    agree (neg c) f x = let h = agree c f x in (h.1, h.0 ∙ sym (not-not (inside m plant c x)))
     agree (conj c d) f x =
         let p = and_parts _ _ f in
         let h = agree c p.0 x in
@@ -159,10 +160,10 @@ module _ (m : Meaning) (kinds : List ℕ) (plant : Plant) (proper : Proper m kin
         let h : (y : ℕ) → (inside m plant (normal m c) y ≡ inside m plant c y) × (inside m plant (negated m c) y ≡ not (inside m plant c y)) = λ y. agree c (and_parts _ _ f).1 y in (
           all_same _ _ plant.count (λ y. ap (λ b. not (related plant r x y) || b) (h y).0),
           any_not _ _ plant.count
-              (λ y. ap (λ b. related plant r x y && b) (h y).1 ∙ (ap (λ b. b && not (inside m plant c y)) (sym (not_not (related plant r x y))) ∙ not_or (not (related plant r x y)) (inside m plant c y))),
+              (λ y. ap (λ b. related plant r x y && b) (h y).1 ∙ (ap (λ b. b && not (inside m plant c y)) (sym (not-not (related plant r x y))) ∙ not_or (not (related plant r x y)) (inside m plant c y))),
         )
     agree (has g) f x = (refl, refl)
-    agree (lacks g) f x = (refl, sym (not_not (defined plant g x)))
+    agree (lacks g) f x = (refl, sym (not-not (defined plant g x)))
     agree (holds p u v) f x = (refl, not_holds_turns lawful p u v x f)
     agree (meets u v) f x =
         let p = and_parts (link_chain u) (link_chain v) f in (
@@ -181,7 +182,7 @@ module _ (m : Meaning) (kinds : List ℕ) (plant : Plant) (proper : Proper m kin
         twice None None = refl
         twice None (Some b) = refl
         twice (Some a) None = refl
-        twice (Some a) (Some b) = sym (not_not (eqb a b))
+        twice (Some a) (Some b) = sym (not-not (eqb a b))
 
 pub agreement : Agreement
 agreement m lawful kinds c f =

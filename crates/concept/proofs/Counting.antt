@@ -1,30 +1,26 @@
 -- The counts of a term from those of the places below it.
-use Rattle.std.proofs.Common.{◌≡◌, ℕ, ◌+◌, ◌-◌, ◌<◌, ◌≤◌, true, ltb, ◌⊎◌, List, [], ◌∷◌, ◌++◌, map, length, get_or, take, set, sym, ap, ◌∙◌, subst, ap₂, inl, inr, arith}
-use Rattle.std.proofs.lemmas.List.{get_or-take, length-take-le, get_or-map, length-map, map-append, take_more, take_more_set}
+use Rattle.std.proofs.Common.{◌≡◌, ℕ, ◌+◌, ◌-◌, ◌<◌, ◌≤◌, true, ltb, ◌⊎◌, List, [], ◌∷◌, ◌++◌, map, length, get_or, take, sym, ap, ◌∙◌, ap₂, inl, inr, arith}
+use Rattle.std.proofs.lemmas.List.{length-take-le, get_or-map, length-map, map-append, take_more, take_all}
 use Rattle.std.proofs.lemmas.Bool.{and_parts, ltb-true}
 use Rattle.concept.specs.declared.count.Counts.{Counts}
 use Rattle.concept.specs.declared.count.SignedCounts.{SignedCounts}
 use Rattle.concept.specs.declared.term.Term.{Term}
-use Rattle.concept.specs.declared.term.Term.TheVariants.{Not, And, Or, Exists, Forall}
-use Rattle.concept.specs.Concepts.Concept.{atom, disj, all}
+use Rattle.concept.specs.declared.term.Term.TheVariants.{And, Or, Meets, Parts}
+use Rattle.concept.specs.declared.node.Chain.{Chain}
+use Rattle.concept.specs.Chains.{steps}
+use Rattle.concept.specs.Concepts.Concept.{atom, disj, meets, parts}
 use Rattle.concept.specs.Counts.{counted, counted_forms}
-use Rattle.concept.specs.Terms.{Forms, forms_at, forms, term_forms, lower}
-use Rattle.concept.proofs.Growing.{grow_push}
+use Rattle.concept.specs.Terms.{Forms, forms_at, forms, term_forms, lower, all_lower, nowhere}
+use Rattle.concept.proofs.Growing.{grow_push, length_grow}
+use Rattle.concept.proofs.Places.{lower_from}
 
 pub both_counted : (f : Forms) (a b : Counts) → a ≡ counted f.plain → b ≡ counted f.turned → ◌≡◌ {A = SignedCounts} record { plain = a; turned = b } (counted_forms f)
 both_counted f a b p q = ap₂ (λ (x y : Counts). record { plain = x; turned = y }) p q
 
 module _ (n : ℕ) (term : Term) (h : lower n term ≡ true) where
-  pub lower_not : (l : ℕ) → term ≡ Not l → l < n
-  lower_not l e = ltb-true l n (ap (lower n) (sym e) ∙ h)
-
   pub lower_two : (l r : ℕ) → (term ≡ And l r) ⊎ (term ≡ Or l r) → (l < n) × (r < n)
   lower_two l r (inl e) = let p = and_parts (ltb l n) (ltb r n) (ap (lower n) (sym e) ∙ h) in (ltb-true l n p.0, ltb-true r n p.1)
   lower_two l r (inr e) = let p = and_parts (ltb l n) (ltb r n) (ap (lower n) (sym e) ∙ h) in (ltb-true l n p.0, ltb-true r n p.1)
-
-  pub lower_one : (s l : ℕ) → (term ≡ Exists s l) ⊎ (term ≡ Forall s l) → l < n
-  lower_one s l (inl e) = ltb-true l n (ap (lower n) (sym e) ∙ h)
-  lower_one s l (inr e) = ltb-true l n (ap (lower n) (sym e) ∙ h)
 
 module _ (below : List SignedCounts) (fs : List Forms) (same : below ≡ map counted_forms fs) where
   pub read_counts : (l : ℕ) (d : SignedCounts) → l < length below → get_or below l d ≡ counted_forms (forms_at fs l)
@@ -38,26 +34,33 @@ module _ (fs : List Forms) (term : Term) (a b : Counts) where
   two_counted l r (inl e) p q = both_counted (term_forms fs (And l r)) a b p q ∙ ap (λ t. counted_forms (term_forms fs t)) (sym e)
   two_counted l r (inr e) p q = both_counted (term_forms fs (Or l r)) a b p q ∙ ap (λ t. counted_forms (term_forms fs t)) (sym e)
 
-  pub one_counted : (s l : ℕ) → (term ≡ Exists s l) ⊎ (term ≡ Forall s l) → a ≡ counted (all s (forms_at fs l).plain)
-      → b ≡ counted (all s (forms_at fs l).turned) → ◌≡◌ {A = SignedCounts} record { plain = a; turned = b } (counted_forms (term_forms fs term))
-  one_counted s l (inl e) p q = both_counted (term_forms fs (Exists s l)) a b p q ∙ ap (λ t. counted_forms (term_forms fs t)) (sym e)
-  one_counted s l (inr e) p q = both_counted (term_forms fs (Forall s l)) a b p q ∙ ap (λ t. counted_forms (term_forms fs t)) (sym e)
+-- the counts of a leaf, and of: another leaf, or one of the chains leads nowhere
+pub met_counted :
+    (fs : List Forms) (term : Term) (u v : Chain) (s : SignedCounts) → (term ≡ Meets u v) ⊎ (term ≡ Parts u v) → s.plain ≡ counted (meets (steps u) (steps v))
+    → s.turned ≡ counted (disj (parts (steps u) (steps v)) (nowhere u v)) → s ≡ counted_forms (term_forms fs term)
+met_counted fs term u v s (inl e) p q = both_counted (term_forms fs (Meets u v)) s.plain s.turned p q ∙ ap (λ t. counted_forms (term_forms fs t)) (sym e)
+met_counted fs term u v s (inr e) p q = both_counted (term_forms fs (Parts u v)) s.plain s.turned p q ∙ ap (λ t. counted_forms (term_forms fs t)) (sym e)
 
--- one place more is counted
-pub counted_more : (terms : List Term) (counts : List SignedCounts) (i : ℕ) (d : Term) (new : SignedCounts) → i < length terms → i < length counts
-    → take i counts ≡ map counted_forms (forms (take i terms)) → new ≡ counted_forms (term_forms (forms (take i terms)) (get_or terms i d))
-    → take (i + 1) (set counts i new) ≡ map counted_forms (forms (take (i + 1) terms))
-counted_more terms counts i d new h k same e =
-    let front = forms (take i terms) in
-    let t = get_or terms i d in
-    take_more_set counts i new k ∙ (ap₂ (λ xs x. xs ++ (x ∷ [])) same e
-    ∙ (sym (map-append counted_forms front (term_forms front t ∷ [])) ∙ (ap (map counted_forms) (sym (grow_push term_forms [] (take i terms) t))
-    ∙ ap (λ ts. map counted_forms (forms ts)) (sym (take_more terms i d h)))))
+-- the terms before i are counted
+module _ (ts : List Term) (counts : List SignedCounts) (i : ℕ) (same : counts ≡ map counted_forms (forms (take i ts))) where
+  pub counted_length : i ≤ length ts → length counts ≡ i
+  counted_length h = ap length same ∙ (length-map (forms (take i ts)) counted_forms ∙ (length_grow term_forms [] (take i ts) ∙ omega (arith, length-take-le i ts h)))
 
--- the last place, when all are counted
-pub root_counted : (terms : List Term) (counts : List SignedCounts) (place len : ℕ) (d : SignedCounts) → place ≡ len → 0 < len → len ≤ length counts
-    → take place counts ≡ map counted_forms (forms (take place terms)) → get_or counts (len - 1) d ≡ counted_forms (forms_at (forms (take len terms)) (len - 1))
-root_counted terms counts place len d at some few same =
-    let whole : take len counts ≡ map counted_forms (forms (take len terms)) = subst (λ k. take k counts ≡ map counted_forms (forms (take k terms))) at same in
-    sym (get_or-take len counts (len - 1) d (omega arith))
-    ∙ read_counts (take len counts) (forms (take len terms)) whole (len - 1) d (omega (arith, length-take-le len counts few))
+  pub counted_lower : (d : Term) → i < length ts → all_lower 0 ts ≡ true → lower (length counts) (get_or ts i d) ≡ true
+  counted_lower d h e = ap (λ k. lower k (get_or ts i d)) (omega (arith, counted_length (omega arith))) ∙ lower_from 0 ts i d h e
+
+  -- one term more
+  pub counted_more : (d : Term) (new : SignedCounts) → i < length ts → new ≡ counted_forms (term_forms (forms (take i ts)) (get_or ts i d))
+      → counts ++ (new ∷ []) ≡ map counted_forms (forms (take (i + 1) ts))
+  counted_more d new h e =
+      let front = forms (take i ts) in
+      let t = get_or ts i d in
+      ap₂ (λ xs x. xs ++ (x ∷ [])) same e
+      ∙ (sym (map-append counted_forms front (term_forms front t ∷ [])) ∙ (ap (map counted_forms) (sym (grow_push term_forms [] (take i ts) t))
+      ∙ ap (λ l. map counted_forms (forms l)) (sym (take_more ts i d h))))
+
+  -- the last place, when all are counted
+  pub root_counted : (d : SignedCounts) → i ≡ length ts → 0 < length ts → get_or counts (length ts - 1) d ≡ counted_forms (forms_at (forms ts) (length ts - 1))
+  root_counted d end some =
+      let all : take i ts ≡ ts = take_all i ts (omega arith) in
+      read_counts counts (forms ts) (same ∙ ap (λ l. map counted_forms (forms l)) all) (length ts - 1) d (omega (arith, counted_length (omega arith)))

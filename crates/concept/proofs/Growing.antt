@@ -1,6 +1,6 @@
 -- Growing a list: one element more, its length, and what stands before.
 use Rattle.std.proofs.Common.{◌≡◌, ℕ, ◌+◌, ◌<◌, ◌≤◌, List, [], ◌∷◌, ◌++◌, length, get_or, take, drop, sym, refl, ap, ◌∙◌, arith}
-use Rattle.std.proofs.lemmas.List.{length_push, get_or_append_left, get_or_push, take-append-le, take-append-drop, take_all, take_more, get_or-take, length-take-le}
+use Rattle.std.proofs.lemmas.List.{length_push, get_or_push, take-append-le, take-append-drop, take_all, take_more, get_or-take, length-take-le}
 use Rattle.concept.specs.Growing.{grow}
 
 module _ {A B : Type 0} (make : List B → A → B) where
@@ -22,12 +22,6 @@ module _ {A B : Type 0} (make : List B → A → B) where
   take_grow k done (x ∷ xs) h =
       let more : k ≤ length (done ++ (make done x ∷ [])) = omega (arith, length_push done (make done x)) in
       take_grow k (done ++ (make done x ∷ [])) xs more ∙ take-append-le k done (make done x ∷ []) h
-
-  pub getD_grow : (done : List B) (xs : List A) (i : ℕ) (d : B) → i < length done → get_or (grow make done xs) i d ≡ get_or done i d
-  getD_grow done [] i d h = refl
-  getD_grow done (x ∷ xs) i d h =
-      let more : i < length (done ++ (make done x ∷ [])) = omega (arith, length_push done (make done x)) in
-      getD_grow (done ++ (make done x ∷ [])) xs i d more ∙ get_or_append_left done (make done x ∷ []) d i h
 
   -- the first k entries are grown from the first k elements
   pub grow_take : (k : ℕ) (xs : List A) → k ≤ length xs → take k (grow make [] xs) ≡ grow make [] (take k xs)

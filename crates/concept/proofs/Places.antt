@@ -8,7 +8,7 @@ use Rattle.concept.specs.Concepts.Concept.{atom, conj, disj, some, all}
 use Rattle.concept.specs.Terms.{Forms, forms_at, forms, term_forms, lower, all_lower}
 use Rattle.concept.proofs.Growing.{grow_at, grow_below}
 
-lower_from : (j : ℕ) (ts : List Term) (i : ℕ) (d : Term) → i < length ts → all_lower j ts ≡ true → lower (j + i) (get_or ts i d) ≡ true
+pub lower_from : (j : ℕ) (ts : List Term) (i : ℕ) (d : Term) → i < length ts → all_lower j ts ≡ true → lower (j + i) (get_or ts i d) ≡ true
 lower_from j [] i d h e = absurd (omega arith)
 lower_from j (t ∷ ts) zero d h e = ap (λ k. lower k t) (omega arith) ∙ (and_parts (lower j t) (all_lower (j + 1) ts) e).0
 lower_from j (t ∷ ts) (suc i) d h e =

@@ -1,11 +1,8 @@
 -- Boolean algebra, and tests over the numbers below a bound.
 use Rattle.std.proofs.Common.{◌≡◌, ℕ, zero, suc, ◌<◌, ◌≤◌, Bool, true, false, not, ◌&&◌, ◌||◌, eqb, ◌⊎◌, sym, refl, ap, ◌∙◌, ap₂, inl, inr, arith}
+use Rattle.std.proofs.Math.Bool.{and-true, true-or}
 use Rattle.std.proofs.lemmas.Bool.{cases_eq, eq-eqb, ne_eqb}
 use Rattle.concept.specs.Plants.{any_below, all_below}
-
-pub not_not : (a : Bool) → not (not a) ≡ a
-not_not true = refl
-not_not false = refl
 
 pub not_and : (a b : Bool) → (not a || not b) ≡ not (a && b)
 not_and true true = refl
@@ -18,14 +15,6 @@ not_or true true = refl
 not_or true false = refl
 not_or false true = refl
 not_or false false = refl
-
-pub not_false_or : (a : Bool) → (not false || a) ≡ true
-not_false_or true = refl
-not_false_or false = refl
-
-pub or_false : (a : Bool) → (a || false) ≡ a
-or_false true = refl
-or_false false = refl
 
 pub any_same : (p q : ℕ → Bool) (n : ℕ) → ((y : ℕ) → p y ≡ q y) → any_below p n ≡ any_below q n
 any_same p q zero e = refl
@@ -55,11 +44,7 @@ module _ (z : ℕ) (p : ℕ → Bool) where
   beyond (suc n) h =
       let apart : z ≡ n → ⊥ = λ e. omega arith in
       let le : n ≤ z = omega arith in
-      ap₂ ◌&&◌ (ap (λ b. not b || p n) (ne_eqb z n apart) ∙ not_false_or (p n)) (beyond n le)
-
-  and_true : (a : Bool) → (a && true) ≡ a
-  and_true true = refl
-  and_true false = refl
+      ap₂ ◌&&◌ (ap (λ b. not b || p n) (ne_eqb z n apart) ∙ true-or (p n)) (beyond n le)
 
   pub all_at : (n : ℕ) → z < n → all_below (λ y. not (eqb z y) || p y) n ≡ p z
   all_at zero h = absurd (omega arith)
@@ -67,5 +52,5 @@ module _ (z : ℕ) (p : ℕ → Bool) where
     where
       go : (z ≡ n) ⊎ (z ≡ n → ⊥) → (z < n → all_below (λ y. not (eqb z y) || p y) n ≡ p z) → all_below (λ y. not (eqb z y) || p y) (suc n) ≡ p z
       go (inl e) more =
-          ap₂ ◌&&◌ (ap (λ b. not b || p n) (eq-eqb z n e)) (beyond n (omega arith)) ∙ (and_true (p n) ∙ ap p (sym e))
-      go (inr ne) more = ap₂ ◌&&◌ (ap (λ b. not b || p n) (ne_eqb z n ne) ∙ not_false_or (p n)) (more (omega arith))
+          ap₂ ◌&&◌ (ap (λ b. not b || p n) (eq-eqb z n e)) (beyond n (omega arith)) ∙ (and-true (p n) ∙ ap p (sym e))
+      go (inr ne) more = ap₂ ◌&&◌ (ap (λ b. not b || p n) (ne_eqb z n ne) ∙ true-or (p n)) (more (omega arith))

@@ -105,19 +105,6 @@ leaf_as (Holds k u v) e p = leaf_grown (holds k (steps u) (steps v)) refl refl r
 leaf_as (Meets u v) e p = leaf_grown (meets (steps u) (steps v)) refl refl refl p
 leaf_as (Parts u v) e p = leaf_grown (parts (steps u) (steps v)) refl refl refl p
 
-pub leaf_size : (n : Normal) → children n ≡ [] → nodes (tree [] n) ≡ 1
-leaf_size (Atom n) e = refl
-leaf_size (NotAtom n) e = refl
-leaf_size (And l r) e = let z : ◌≡◌ {A = ℕ} 0 1 = cc in absurd (omega arith)
-leaf_size (Or l r) e = let z : ◌≡◌ {A = ℕ} 0 1 = cc in absurd (omega arith)
-leaf_size (Exists r l) e = let z : ◌≡◌ {A = ℕ} 0 1 = cc in absurd (omega arith)
-leaf_size (Forall r l) e = let z : ◌≡◌ {A = ℕ} 0 1 = cc in absurd (omega arith)
-leaf_size (Has f) e = refl
-leaf_size (Lacks f) e = refl
-leaf_size (Holds k u v) e = refl
-leaf_size (Meets u v) e = refl
-leaf_size (Parts u v) e = refl
-
 -- the four nodes over trees
 module _ {before mid after : List Normal} {l root : ℕ} {c : Concept} (r : ℕ) (g : Grown before mid l c) where
   pub some_grown : Pushed mid after root (Exists r l) → Grown before after root (some r c)
@@ -137,9 +124,6 @@ module _ {before mid late : List Normal} {l r : ℕ} {c d : Concept} (g : Grown 
   disj_grown p = over_two (disj c d) g h refl (ap₂ disj first_still h.stands) refl p
 
 -- such nodes may be pushed
-pub leaf_fits : (i : ℕ) (n : Normal) (before : List Normal) → children n ≡ [] → is_some (roots before) ≡ true → is_some (rooted i n (roots before)) ≡ true
-leaf_fits i n before e h = ap is_some (takes_none i n (roots before) e) ∙ is_onto i (roots before) h
-
 pub one_fits : {before mid : List Normal} {l : ℕ} {c : Concept} (i : ℕ) (n : Normal) → Grown before mid l c → children n ≡ (l ∷ []) → is_some (roots before) ≡ true
     → is_some (rooted i n (roots mid)) ≡ true
 one_fits {before} {mid} {l} i n g e h =

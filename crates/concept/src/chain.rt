@@ -1,31 +1,10 @@
 // Which chains are written properly, and where they end.
 ghost use Rattle.std.specs.Prelude.{◌≡◌, ℕ};
-ghost use Rattle.concept.specs.Concepts.{is_link, is_value, kind_at, end_kind};
+ghost use Rattle.concept.specs.Concepts.{end_kind};
 ghost use Rattle.concept.specs.Chains.{steps, no_chain, to_thing, to_value};
 
+use crate::features::{is_link, is_value, kind_at};
 use crate::node::Chain;
-
-// Link features are 1 to 127.
-pub(crate) fn is_link(feature: u32) -> bool
-    ensures { result ≡ is_link feature }
-{
-    1 <= feature && feature <= 127
-}
-
-// Value features are 128 to 255.
-fn is_value(feature: u32) -> bool
-    ensures { result ≡ is_value feature }
-{
-    128 <= feature && feature <= 255
-}
-
-// The kind of a value feature; 0 where none is listed.
-fn kind_at(kinds: &[u32], feature: u32) -> u32
-    ensures { result ≡ kind_at kinds.now feature }
-{
-    let place = feature.saturating_sub(128) as usize;
-    if place < kinds.len() { kinds[place] } else { 0 }
-}
 
 impl Chain {
     // No step at all.

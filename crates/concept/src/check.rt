@@ -22,7 +22,8 @@ fn length_fits(len: usize) -> bool
     1 <= len && len <= MOST_TERMS
 }
 
-// The term of the node at this place. A broken node is refused before an unfit predicate.
+// The term of the node at this place. A broken node is refused before an unfit predicate. The domain and the kinds stay two
+// parameters, here and in what is called: behind a struct's fields every clause would be longer.
 fn check_node<D: Domain>(
     domain: &D,
     kinds: &[u32],
@@ -35,10 +36,7 @@ fn check_node<D: Domain>(
     if !is_whole(kinds, place, node) {
         return Err(TableFault::Broken(place));
     }
-    match term_of(domain, kinds, node) {
-        Ok(term) => Ok(term),
-        Err(fault) => Err(TableFault::Unfit(place, fault)),
-    }
+    term_of(domain, kinds, node).map_err(|fault| TableFault::Unfit(place, fault))
 }
 
 // Checks a table of nodes over a domain, where `kinds` are the kinds of the value features from 128 on. The first fault is

@@ -1,18 +1,18 @@
 // Counting what a checked table stands for. A table shares its terms and a normal form does not, so a form can have more nodes
 // than anything could hold: it is counted place by place, and never written out.
-ghost use Rattle.std.specs.Prelude.{◌≡◌, ℕ, ◌<◌, true, List, [], map, length};
+ghost use Rattle.std.specs.Prelude.{◌≡◌, ℕ, ◌<◌, true, List, map, length};
 ghost use Rattle.concept.specs.Chains.{steps};
 ghost use Rattle.concept.specs.Concepts.{Concept};
 ghost use Rattle.concept.specs.Concepts.Concept.{disj, all};
 ghost use Rattle.concept.specs.Counts.{counted, counted_forms};
 ghost use Rattle.concept.specs.Held.{root_forms};
 ghost use Rattle.concept.specs.Normal.{undefined};
-ghost use Rattle.concept.specs.declared.term.Term.TheVariants.{Meets};
-ghost use Rattle.concept.specs.Terms.{Forms, signed, term_forms, lower as names-lower, constraint_forms};
+ghost use Rattle.concept.specs.Terms.{Forms, signed, term_forms, lower as names-lower, nowhere};
 
 use crate::checked::Checked;
 use crate::node::Chain;
-use crate::term::{Constraint, Sign, Term};
+use crate::term::{Sign, Term};
+use arrayvec::ArrayVec;
 
 // What is counted of a normal form, each up to 2^32 - 1.
 #[derive(Clone, Copy, PartialEq, Eq, Debug)]
@@ -29,6 +29,16 @@ pub struct Counts {
 struct SignedCounts {
     plain: Counts,
     turned: Counts,
+}
+
+// What stands in the unused places of a vector.
+impl Default for SignedCounts {
+    fn default() -> SignedCounts {
+        SignedCounts {
+            plain: LEAF,
+            turned: LEAF,
+        }
+    }
 }
 
 const LEAF: Counts = Counts {
@@ -55,11 +65,25 @@ impl Counts {
         }
     }
 
+    // The counts of a leaf, and of: another such leaf, or that a chain leads nowhere.
+    fn or_nowhere(self, nowhere: Counts) -> SignedCounts
+        ensures plain { result.plain ≡ self }
+        ensures turned { (c d : Concept) → self ≡ counted c → nowhere ≡ counted d → result.turned ≡ counted (disj c d) }
+    {
+        SignedCounts {
+            plain: self,
+            turned: self.joined(nowhere),
+        }
+    }
+
     // The counts of a "some" or an "all" over a form.
     fn over(self, relation: u32) -> Counts
         ensures { (c : Concept) → self ≡ counted c → result ≡ counted (all relation c) }
     {
-        let step = if relation < 256 { 0 } else { 1 };
+        let step = match relation {
+            256.. => 1,
+            _ => 0,
+        };
         Counts {
             nodes: self.nodes.saturating_add(1),
             valued: self.valued,
@@ -72,41 +96,18 @@ impl Counts {
 fn undefined_counts(chain: Chain) -> Counts
     ensures { result ≡ counted (undefined (steps chain)) }
 {
-    if chain.first == 0 || chain.second == 0 {
-        LEAF
-    } else if chain.third == 0 {
-        LEAF.over(chain.first)
-    } else {
-        LEAF.over(chain.second).over(chain.first)
+    match (chain.first, chain.second, chain.third) {
+        (0, _, _) | (_, 0, _) => LEAF,
+        (f, _, 0) => LEAF.over(f),
+        (f, g, _) => LEAF.over(g).over(f),
     }
 }
 
-// The counts of a constraint, and of: its complement, or a chain that leads nowhere.
-fn constraint_counts(constraint: Constraint) -> SignedCounts
-    ensures { result ≡ counted_forms (constraint_forms constraint) }
+// The counts of: one of the chains leads nowhere.
+fn nowhere_counts(u: Chain, v: Chain) -> Counts
+    ensures { result ≡ counted (nowhere u v) }
 {
-    let u = undefined_counts(constraint.u);
-    let v = undefined_counts(constraint.v);
-    let nowhere = if constraint.arity == 1 {
-        u
-    } else {
-        u.joined(v)
-    };
-    SignedCounts {
-        plain: VALUED_LEAF,
-        turned: VALUED_LEAF.joined(nowhere),
-    }
-}
-
-// The counts of a leaf and of: another leaf, or a chain that leads nowhere.
-fn meeting_counts(u: Chain, v: Chain) -> SignedCounts
-    ensures { result ≡ counted_forms (term_forms [] (Meets u v)) }
-{
-    let nowhere = undefined_counts(u).joined(undefined_counts(v));
-    SignedCounts {
-        plain: LEAF,
-        turned: LEAF.joined(nowhere),
-    }
+    undefined_counts(u).joined(undefined_counts(v))
 }
 
 // The counts of a term, from those of the places below it.
@@ -149,8 +150,11 @@ fn term_counts(term: Term, below: &[SignedCounts]) -> SignedCounts
             plain: LEAF,
             turned: VALUED_LEAF,
         },
-        Term::Holds(constraint) => constraint_counts(constraint),
-        Term::Meets(u, v) | Term::Parts(u, v) => meeting_counts(u, v),
+        Term::Holds(k) => match k.arity {
+            1 => VALUED_LEAF.or_nowhere(undefined_counts(k.u)),
+            _ => VALUED_LEAF.or_nowhere(nowhere_counts(k.u, k.v)),
+        },
+        Term::Meets(u, v) | Term::Parts(u, v) => LEAF.or_nowhere(nowhere_counts(u, v)),
     }
 }
 
@@ -159,15 +163,12 @@ impl Checked {
     pub fn count(&self, sign: Sign) -> Counts
         ensures { result ≡ counted (signed sign (root_forms self.now)) }
     {
-        let none = SignedCounts {
-            plain: LEAF,
-            turned: LEAF,
-        };
-        let mut counts = [none; 64];
-        for place in 0..self.len {
-            counts[place] = term_counts(self.terms[place], &counts[0..place]);
+        let mut counts = ArrayVec::<SignedCounts, 64>::new();
+        for term in self.as_slice() {
+            let more = term_counts(*term, counts.as_slice());
+            counts.push(more);
         }
-        let root = counts[self.len - 1];
+        let root = counts.as_slice()[self.len - 1];
         match sign {
             Sign::Plain => root.plain,
             Sign::Negated => root.turned,

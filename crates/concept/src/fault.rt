@@ -1,5 +1,6 @@
 // Why a concept table is refused.
 ghost use Rattle.std.specs.Prelude.{◌≡◌, ℕ};
+ghost use Rattle.concept.specs.declared.fault.PredicateFault.TheVariants.{Unknown};
 ghost use Rattle.concept.specs.Faults.{number_of, place_of};
 
 use domain::{Predicate, Refusal};
@@ -11,6 +12,14 @@ pub enum PredicateFault {
     Unknown(Refusal),
     // it is known, with this arity, and the arity asks for other chains
     Arity(Predicate, u32),
+}
+
+impl From<Refusal> for PredicateFault {
+    ghost from_gives = { λ e r. r ≡ Unknown e };
+
+    fn from(refusal: Refusal) -> PredicateFault {
+        PredicateFault::Unknown(refusal)
+    }
 }
 
 // The refusals of the table check.

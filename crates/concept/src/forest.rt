@@ -8,7 +8,7 @@ use crate::normal::Normal;
 pub const MOST_NODES: usize = 256;
 
 // Trees of normal nodes. A node's children are the newest trees that no earlier node has taken, so every node has its
-// children at lower places and at most one parent.
+// children at lower places and at most one parent. Forests are changed by value and use no heap: hence an array with a length.
 #[derive(Clone, Copy)]
 pub struct Forest {
     pub(crate) nodes: [Normal; 256],

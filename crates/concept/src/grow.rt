@@ -1,5 +1,5 @@
 // Forests: making one, reading it, adding a node and cutting back.
-ghost use Rattle.std.specs.Prelude.{◌≡◌, ℕ, ◌<◌, ◌≤◌, true, [], length, take, is_some, Some};
+ghost use Rattle.std.specs.Prelude.{◌≡◌, ℕ, ◌<◌, ◌≤◌, true, [], length, take, is_some};
 ghost use Rattle.std.specs.List.{slice_get};
 ghost use Rattle.concept.specs.Forests.{Pushed, rooted, roots};
 ghost use Rattle.concept.specs.Held.{items};
@@ -24,22 +24,18 @@ impl Forest {
         self.len
     }
 
+    // The nodes, by their places.
+    pub fn as_slice(&self) -> &[Normal]
+        ensures { result.now ≡ items self.now }
+    {
+        &self.nodes[..self.len]
+    }
+
     // The node at a place, if there is one.
     pub fn get(&self, place: usize) -> Option<Normal>
         ensures { result ≡ slice_get (items self.now) place }
     {
-        if place < self.len() {
-            Some(self.node(place))
-        } else {
-            None
-        }
-    }
-
-    fn node(&self, place: usize) -> Normal
-        requires { place < length (items self.now) }
-        ensures { Some result ≡ slice_get (items self.now) place }
-    {
-        self.nodes[place]
+        self.as_slice().get(place).copied()
     }
 
     // The forest as it was when it had this many nodes; one that has fewer stays as it is.

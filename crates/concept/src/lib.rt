@@ -12,6 +12,8 @@ pub mod check;
 pub mod checked;
 pub mod count;
 pub mod fault;
+pub mod features;
+pub mod fit;
 pub mod forest;
 mod grow;
 pub mod node;

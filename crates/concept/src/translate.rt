@@ -1,38 +1,18 @@
 // The terms of nodes that are not broken. A predicate is looked up in the domain here, with its complement.
 ghost use Rattle.std.specs.Prelude.{◌≡◌, ℕ, IfOk};
 ghost use Rattle.std.specs.Result.{result_err};
-ghost use Rattle.concept.specs.declared.fault.PredicateFault.TheVariants.{Unknown};
 ghost use Rattle.concept.specs.Tables.{predicate_at, misfit, unfit};
 ghost use Rattle.concept.specs.Concepts.{is_empty};
 ghost use Rattle.concept.specs.Chains.{steps};
 ghost use Rattle.concept.specs.Translating.{constraint_of, term_of};
 
 use crate::fault::PredicateFault;
+use crate::fit::{fit, predicate_at};
 use crate::node::Node;
 use crate::term::{Constraint, Term};
-use domain::{Domain, Predicate, Refusal};
+use domain::Domain;
 
-impl From<Refusal> for PredicateFault {
-    ghost from_gives = { λ e r. r ≡ Unknown e };
-
-    fn from(refusal: Refusal) -> PredicateFault {
-        PredicateFault::Unknown(refusal)
-    }
-}
-
-// The predicate of a holds node: its kind is that of the end of u.
-fn predicate_at(kinds: &[u32], node: Node) -> Predicate
-    ensures { result ≡ predicate_at kinds.now node }
-{
-    Predicate {
-        kind: node.u.end_kind(kinds),
-        form: node.predicate,
-        constant: node.constant,
-    }
-}
-
-// The predicate of a holds node with its complement and its arity. It is unfit where the domain does not know it, and where it
-// stands beside one chain with arity 2 or beside two with arity 1.
+// The predicate of a holds node with its complement and its arity, where it fits beside the chains.
 fn constraint_of<D: Domain>(
     domain: &D,
     kinds: &[u32],
@@ -42,16 +22,11 @@ fn constraint_of<D: Domain>(
     ensures told { IfOk result (λ k. k ≡ constraint_of (D.meaning domain.now) kinds.now node) }
 {
     let predicate = predicate_at(kinds, node);
-    let complement = domain.complement(predicate)?;
-    let arity = domain.arity(predicate);
-    let lone = node.v.first == 0;
-    if (arity == 1) != lone {
-        return Err(PredicateFault::Arity(predicate, arity));
-    }
+    let complement = fit(domain, predicate, node.v.first == 0)?;
     Ok(Constraint {
         predicate,
         complement,
-        arity,
+        arity: domain.arity(predicate),
         u: node.u,
         v: node.v,
     })

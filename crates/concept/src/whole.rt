@@ -1,32 +1,11 @@
 // Which nodes are not broken: their form, and the fields that it uses, are in range.
 ghost use Rattle.std.specs.Prelude.{◌≡◌, ℕ, ◌&&◌, ◌||◌, ◌==◌, nat_lt};
-ghost use Rattle.concept.specs.Concepts.{is_name, is_feature, is_relation, end_kind};
+ghost use Rattle.concept.specs.Concepts.{end_kind};
 ghost use Rattle.concept.specs.Chains.{steps, no_chain, to_value};
 ghost use Rattle.concept.specs.Tables.{whole};
 
-use crate::chain::is_link;
+use crate::features::{is_feature, is_name, is_relation};
 use crate::node::{Chain, Node};
-
-// Names are 1 to 255.
-fn is_name(name: u32) -> bool
-    ensures { result ≡ is_name name }
-{
-    1 <= name && name <= 255
-}
-
-// Features are 1 to 255, links and values together.
-fn is_feature(feature: u32) -> bool
-    ensures { result ≡ is_feature feature }
-{
-    1 <= feature && feature <= 255
-}
-
-// Relations are the link features, and the roles 256 to 511.
-fn is_relation(relation: u32) -> bool
-    ensures { result ≡ is_relation relation }
-{
-    is_link(relation) || (256 <= relation && relation <= 511)
-}
 
 // A place that a node may name: a lower one than its own.
 fn is_lower(child: u32, place: usize) -> bool

@@ -6,13 +6,13 @@ ghost use Rattle.concept.specs.Concepts.Concept.{disj};
 ghost use Rattle.concept.specs.Forests.{Grown, children, tree};
 ghost use Rattle.concept.specs.Held.{Added, Says, items, forms_of, root_forms};
 ghost use Rattle.concept.specs.Normal.{nodes, undefined};
-ghost use Rattle.concept.specs.Terms.{constraint_forms, nowhere, signed};
+ghost use Rattle.concept.specs.Terms.{nowhere, signed};
 
 use crate::checked::Checked;
 use crate::forest::{Forest, MOST_NODES};
 use crate::node::Chain;
 use crate::normal::Normal;
-use crate::term::{Constraint, Sign, Term};
+use crate::term::{Sign, Term};
 
 impl Checked {
     fn term(&self, place: usize) -> Term
@@ -29,16 +29,30 @@ impl Forest {
         requires { length (items self) + nodes (undefined (steps chain)) ≤ 256 }
         ensures { Grown (items self) (items result.0) result.1 (undefined (steps chain)) }
     {
-        if chain.first == 0 || chain.second == 0 {
-            return self.push(Normal::Lacks(chain.first));
+        match (chain.first, chain.second, chain.third) {
+            (0, _, _) => self.push(Normal::Lacks(0)),
+            (f, 0, _) => self.push(Normal::Lacks(f)),
+            (f, g, 0) => {
+                let (forest, end) = self.push(Normal::Lacks(g));
+                forest.push(Normal::Forall(f, end))
+            }
+            (f, g, h) => {
+                let (forest, end) = self.push(Normal::Lacks(h));
+                let (forest, rest) = forest.push(Normal::Forall(g, end));
+                forest.push(Normal::Forall(f, rest))
+            }
         }
-        if chain.third == 0 {
-            let (forest, end) = self.push(Normal::Lacks(chain.second));
-            return forest.push(Normal::Forall(chain.first, end));
-        }
-        let (forest, end) = self.push(Normal::Lacks(chain.third));
-        let (forest, rest) = forest.push(Normal::Forall(chain.second, end));
-        forest.push(Normal::Forall(chain.first, rest))
+    }
+
+    // Writes a leaf, or that the chain leads nowhere.
+    fn write_or_undefined(self, leaf: Normal, chain: Chain) -> (Forest, u32)
+        requires alone { children leaf ≡ [] }
+        requires room { length (items self) + (2 + nodes (undefined (steps chain))) ≤ 256 }
+        ensures { Grown (items self) (items result.0) result.1 (disj (tree [] leaf) (undefined (steps chain))) }
+    {
+        let (forest, leaf) = self.push(leaf);
+        let (forest, nowhere) = forest.write_undefined(chain);
+        forest.push(Normal::Or(leaf, nowhere))
     }
 
     // Writes a leaf, or that one of the chains leads nowhere.
@@ -52,21 +66,6 @@ impl Forest {
         let (forest, right) = forest.write_undefined(v);
         let (forest, nowhere) = forest.push(Normal::Or(left, right));
         forest.push(Normal::Or(leaf, nowhere))
-    }
-
-    // Writes that the complement holds, or that a chain of the constraint leads nowhere.
-    fn write_violated(self, constraint: Constraint) -> (Forest, u32)
-        requires { length (items self) + nodes (constraint_forms constraint).turned ≤ 256 }
-        ensures { Grown (items self) (items result.0) result.1 (constraint_forms constraint).turned }
-    {
-        let leaf = Normal::Holds(constraint.complement, constraint.u, constraint.v);
-        if constraint.arity == 1 {
-            let (forest, leaf) = self.push(leaf);
-            let (forest, nowhere) = forest.write_undefined(constraint.u);
-            forest.push(Normal::Or(leaf, nowhere))
-        } else {
-            self.write_or_nowhere(leaf, constraint.u, constraint.v)
-        }
     }
 
     // Writes what a place stands for. This function and the next call each other; the place falls at each call.
@@ -99,9 +98,7 @@ impl Forest {
             }
             Term::Has(feature) => self.push(Normal::Has(feature)),
             Term::Lacks(feature) => self.push(Normal::Lacks(feature)),
-            Term::Holds(constraint) => {
-                self.push(Normal::Holds(constraint.predicate, constraint.u, constraint.v))
-            }
+            Term::Holds(k) => self.push(Normal::Holds(k.predicate, k.u, k.v)),
             Term::Meets(u, v) => self.push(Normal::Meets(u, v)),
             Term::Parts(u, v) => self.push(Normal::Parts(u, v)),
         }
@@ -137,7 +134,12 @@ impl Forest {
             }
             Term::Has(feature) => self.push(Normal::Lacks(feature)),
             Term::Lacks(feature) => self.push(Normal::Has(feature)),
-            Term::Holds(constraint) => self.write_violated(constraint),
+            Term::Holds(k) if k.arity == 1 => {
+                self.write_or_undefined(Normal::Holds(k.complement, k.u, k.v), k.u)
+            }
+            Term::Holds(k) => {
+                self.write_or_nowhere(Normal::Holds(k.complement, k.u, k.v), k.u, k.v)
+            }
             Term::Meets(u, v) => self.write_or_nowhere(Normal::Parts(u, v), u, v),
             Term::Parts(u, v) => self.write_or_nowhere(Normal::Meets(u, v), u, v),
         }
@@ -199,9 +201,7 @@ mod tests {
             Normal::Forall(300, 1),
             Normal::Or(0, 2),
         ];
-        for (place, node) in written.iter().enumerate() {
-            assert_eq!(rt; forest.get(place), Some(*node));
-        }
+        assert_eq!(rt; forest.as_slice(), &written[..]);
         let forest = forest.cut(2);
         assert_eq!(rt; forest.len(), 2);
         assert_eq!(rt; forest.get(2), None);

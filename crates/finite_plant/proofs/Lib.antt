@@ -1,4 +1,2 @@
 pub mod Below
-pub mod Firsts
-pub mod Saying
 pub mod Rows

@@ -1,66 +1,59 @@
--- Answers row by row: 64 to a place, one for each thing.
-use Rattle.std.proofs.Common.{◌≡◌, ℕ, ◌+◌, ◌-◌, ◌*◌, ◌<◌, ◌≤◌, Bool, false, ◌≢◌, List, [], ◌∷◌, ◌++◌, length, get_or, take, drop, set, sym, ap, ◌∙◌, subst, ⊎_elim, arith, get_or-set_other, get_or-set_same, below_more}
-use Rattle.std.proofs.lemmas.List.{length-set, length_push, get_or_append_left, get_or_push, get_or-take, get_or-drop, length-take-le, take_more, take_all}
-use Rattle.std.proofs.lemmas.Bool.{cases_lt}
+-- Rows of answers: one for each place, in it one answer for each thing.
+use Rattle.std.proofs.Common.{◌≡◌, ℕ, ◌+◌, ◌-◌, ◌<◌, ◌≤◌, Bool, List, [], ◌∷◌, ◌++◌, length, get_or, take, Option, sym, refl, ap, ◌∙◌, subst, ⊎_elim, arith}
+use Rattle.std.proofs.lemmas.List.{get_or_past, length-take-le, take_more, take_all}
+use Rattle.std.proofs.lemmas.Option.{slice_get-get_or, slice_get_past}
+use Rattle.std.specs.Prelude.{MatchOption, slice_get}
+use Rattle.std.proofs.lemmas.Bool.{cases_lt, cond_below, cond_above}
 use Rattle.domain.specs.Meaning.{Meaning}
 use Rattle.concept.specs.declared.node.Node.{Node}
 use Rattle.concept.specs.Concepts.{Concept}
 use Rattle.concept.specs.Concepts.Concept.{atom}
 use Rattle.concept.specs.Plants.{Plant, inside}
-use Rattle.concept.specs.Tables.{concept_of, concepts, reads}
+use Rattle.concept.specs.Tables.{below_at, concept_of, concepts, reads}
 use Rattle.concept.proofs.Growing.{grow_push, length_grow}
-use Rattle.finite_plant.specs.Answers.{Told}
+use Rattle.finite_plant.specs.declared.plant.FinitePlant.{FinitePlant}
+use Rattle.finite_plant.specs.Data.{plant_of}
+use Rattle.finite_plant.specs.Answers.{told_at, Told, Members}
 
--- before the first place nothing is told
-pub told_none : (m : Meaning) (plant : Plant) (xs : List Bool) → Told m plant [] xs
-told_none m plant xs = record { room = omega arith; right = λ i x h k. absurd (omega arith) }
+module _ (m : Meaning) (plant : Plant) where
+  -- what is told at a place
+  pub told_right : (cs : List Concept) (rows : List (List Bool)) → Told m plant cs rows → (i x : ℕ) → x < plant.count → told_at plant rows i x ≡ inside m plant (below_at cs i) x
+  told_right cs rows t i x low =
+      ⊎_elim (λ h. sym (cond_below i (length rows) _ _ h) ∙ t.right i (omega (arith, t.each)) x low)
+      (λ h. sym (cond_above i (length rows) _ _ _ h refl) ∙ ap (λ c. inside m plant c x) (sym (get_or_past cs i (atom 0) (omega (arith, t.each)))))
+      (cases_lt i (length rows))
 
-module _ (m : Meaning) (plant : Plant) (few : plant.count ≤ 64) (cs : List Concept) where
-  -- an answer written after those for the places so far changes none of them
-  pub told_set : (xs : List Bool) (j : ℕ) (v : Bool) → 64 * length cs ≤ j → Told m plant cs xs → Told m plant cs (set xs j v)
-  told_set xs j v h t = record {
-    room = let r = t.room in omega (arith, length-set xs j v);
-    right = λ i x lt low.
-        let other : 64 * i + x ≢ j = omega arith in
-        get_or-set_other xs j (64 * i + x) v false other ∙ t.right i x lt low;
-  }
+module _ (m : Meaning) (plant : Plant) (kinds : List ℕ) (table : List Node) where
+  module _ (i : ℕ) (rows : List (List Bool)) (t : Told m plant (concepts kinds (take i table)) rows) where
+    pub told_length : i ≤ length table → length rows ≡ i
+    told_length h = t.each ∙ (length_grow (reads kinds) [] (take i table) ∙ omega (arith, length-take-le i table h))
 
-  -- a whole row more
-  pub told_more : (c : Concept) (xs : List Bool) → Told m plant cs xs → 64 * length cs + 64 ≤ length xs
-      → ((y : ℕ) → y < plant.count → get_or xs (64 * length cs + y) false ≡ inside m plant c y) → Told m plant (cs ++ (c ∷ [])) xs
-  told_more c xs t h row = record {
-    room = omega (arith, length_push cs c);
-    right = λ i x lt low.
-        ⊎_elim (λ k. t.right i x k low ∙ ap (λ d. inside m plant d x) (sym (get_or_append_left cs (c ∷ []) (atom 0) i k)))
-        (λ k.
-        let e : i ≡ length cs = omega (arith, length_push cs c) in
-        ap (λ n. get_or xs (64 * n + x) false) e ∙ (row x low ∙ ap (λ d. inside m plant d x) (sym (get_or_push cs c (atom 0) i (sym e)))))
-        (cases_lt i (length cs));
-  }
+    -- the row of the root
+    root_row : length table ≤ i → 0 < length table → Members m plant (concept_of kinds table) (get_or rows (length table - 1) [])
+    root_row e some =
+        let whole : Told m plant (concepts kinds table) rows = subst (λ ns. Told m plant (concepts kinds ns) rows) (take_all i table e) t in
+        whole.right (length table - 1) (omega (arith, length_grow (reads kinds) [] table))
 
--- one answer more in a row that begins at j
-pub row_more : (F : ℕ → Bool) (xs : List Bool) (j n : ℕ) (v : Bool) → j + n < length xs → ((y : ℕ) → y < n → get_or xs (j + y) false ≡ F y) → v ≡ F n
-    → (y : ℕ) → y < n + 1 → get_or (set xs (j + n) v) (j + y) false ≡ F y
-row_more F xs j n v h below here =
-    below_more (λ y. get_or (set xs (j + n) v) (j + y) false ≡ F y) n
-    (λ y lt. let other : j + y ≢ j + n = omega arith in get_or-set_other xs (j + n) (j + y) v false other ∙ below y lt)
-    (get_or-set_same xs (j + n) v false h ∙ here)
+    pub last_row : i ≡ length table → (o : Option (List Bool)) → o ≡ slice_get rows (length rows - 1) → MatchOption o (length table ≡ 0) (Members m plant (concept_of kinds table))
+    last_row end o e =
+        let long : length rows ≡ length table = told_length (omega arith) ∙ end in
+        ⊎_elim (λ h. subst (λ r. MatchOption r (length table ≡ 0) (Members m plant (concept_of kinds table))) (sym (e ∙ slice_get-get_or rows (length rows - 1) [] (omega arith)))
+        (subst (λ k. Members m plant (concept_of kinds table) (get_or rows (k - 1) [])) (sym long) (root_row (omega arith) (omega arith))))
+        (λ h. subst (λ r. MatchOption r (length table ≡ 0) (Members m plant (concept_of kinds table))) (sym (e ∙ slice_get_past rows (length rows - 1) (omega arith))) (omega arith))
+        (cases_lt 0 (length rows))
 
-module _ (kinds : List ℕ) (table : List Node) where
-  -- one node more
-  pub concepts_more : (i : ℕ) (d : Node) → i < length table → concepts kinds (take (i + 1) table) ≡ concepts kinds (take i table) ++ (reads kinds (concepts kinds (take i table)) (get_or table i d) ∷ [])
-  concepts_more i d h = ap (concepts kinds) (take_more table i d h) ∙ grow_push (reads kinds) [] (take i table) (get_or table i d)
-
-  pub concepts_length : (i : ℕ) → i ≤ length table → length (concepts kinds (take i table)) ≡ i
-  concepts_length i h = length_grow (reads kinds) [] (take i table) ∙ omega (arith, length-take-le i table h)
-
-  -- the row of the root
-  pub root_row : (m : Meaning) (plant : Plant) (n : ℕ) (xs : List Bool) → n ≡ length table → 0 < length table → plant.count ≤ 64
-      → Told m plant (concepts kinds (take n table)) xs → (x : ℕ) → x < plant.count
-      → get_or (take 64 (drop (64 * (length table - 1)) xs)) x false ≡ inside m plant (concept_of kinds table) x
-  root_row m plant n xs e some few t x h =
-      let all : take n table ≡ table = take_all n table (omega arith) in
-      let whole : Told m plant (concepts kinds table) xs = subst (λ ns. Told m plant (concepts kinds ns) xs) all t in
-      let long : length (concepts kinds table) ≡ length table = length_grow (reads kinds) [] table ∙ omega arith in
-      get_or-take 64 (drop (64 * (length table - 1)) xs) x false (omega arith) ∙ (get_or-drop (64 * (length table - 1)) xs x false
-      ∙ whole.right (length table - 1) x (omega arith) h)
+-- the row of one node more, where what is asked stays as it was
+pub told_more :
+    {A : Type 0} (meaning : A → Meaning) {a b : A} {kinds now : List ℕ} {p q : FinitePlant} → b ≡ a → now ≡ kinds → q ≡ p → (table : List Node) (i : ℕ) (d : Node) (rows more : List (List Bool))
+    → i < length table → Told (meaning a) (plant_of p) (concepts kinds (take i table)) rows
+    → ((cs : List Concept) → Told (meaning b) (plant_of q) cs rows → Told (meaning b) (plant_of q) (cs ++ (reads now cs (get_or table i d) ∷ [])) more)
+    → Told (meaning a) (plant_of p) (concepts kinds (take (i + 1) table)) more
+told_more meaning {a} {b} {kinds} {now} {p} {q} same_domain same_kinds same_plant table i d rows more h t step =
+    let cs = concepts kinds (take i table) in
+    let new = get_or table i d in
+    let here = subst (λ x. Told (meaning x) (plant_of q) cs rows) (sym same_domain) (subst (λ x. Told (meaning a) (plant_of x) cs rows) (sym same_plant) t) in
+    let next = subst (λ x. Told (meaning x) (plant_of q) (cs ++ (reads now cs new ∷ [])) more) same_domain (step cs here) in
+    let read = subst (λ x. Told (meaning a) (plant_of x) (cs ++ (reads now cs new ∷ [])) more) same_plant next in
+    subst (λ l. Told (meaning a) (plant_of p) l more)
+    (ap (λ k. cs ++ (reads k cs new ∷ [])) same_kinds ∙ sym (ap (concepts kinds) (take_more table i d h) ∙ grow_push (reads kinds) [] (take i table) new))
+    read

@@ -1,16 +1,13 @@
 -- The plant that data stands for.
-use Rattle.std.specs.Prelude.{ℕ, Bool, cond, ◌&&◌, List, [], ◌∷◌, ℤ, is_some, Some, None, vec_items, Option, ◌==◌}
+use Rattle.std.specs.Prelude.{ℕ, Bool, ◌&&◌, List, ℤ, vec_items, Option, ◌==◌}
+use Rattle.std.specs.List.{find, list_any}
+use Rattle.std.specs.Option.{option_map}
 use Rattle.concept.specs.Plants.{Plant}
 use Rattle.finite_plant.specs.declared.plant.FinitePlant.{FinitePlant}
 use Rattle.finite_plant.specs.declared.plant.Link.{Link}
 use Rattle.finite_plant.specs.declared.plant.Named.{Named}
 use Rattle.finite_plant.specs.declared.plant.Pair.{Pair}
 use Rattle.finite_plant.specs.declared.plant.Reading.{Reading}
-
--- what is told by the first entry that passes a test
-abbrev pub first_told : {A B : Type 0} → (A → Bool) → (A → B) → List A → Option B
-first_told test told [] = None
-first_told test told (e ∷ es) = cond (test e) (Some (told e)) (first_told test told es)
 
 -- an entry for these numbers
 abbrev pub names_so : ℕ → ℕ → Named → Bool
@@ -26,16 +23,16 @@ abbrev pub reads_so : ℕ → ℕ → Reading → Bool
 reads_so g x e = e.feature == g && e.thing == x
 
 abbrev pub has_name : List Named → ℕ → ℕ → Bool
-has_name names n x = is_some (first_told (names_so n x) (λ e. e.thing) names)
+has_name names n x = list_any (names_so n x) names
 
 abbrev pub has_pair : List Pair → ℕ → ℕ → ℕ → Bool
-has_pair pairs r x y = is_some (first_told (pairs_so r x y) (λ e. e.to) pairs)
+has_pair pairs r x y = list_any (pairs_so r x y) pairs
 
 abbrev pub first_link : List Link → ℕ → ℕ → Option ℕ
-first_link links f x = first_told (links_so f x) (λ e. e.to) links
+first_link links f x = option_map (λ e. e.to) (find (links_so f x) links)
 
 abbrev pub first_reading : List Reading → ℕ → ℕ → Option ℤ
-first_reading readings g x = first_told (reads_so g x) (λ e. e.value) readings
+first_reading readings g x = option_map (λ e. e.value) (find (reads_so g x) readings)
 
 -- the plant: the first entry for a thing and a feature stands, and every object stands for the thing 0
 abbrev pub plant_of : FinitePlant → Plant

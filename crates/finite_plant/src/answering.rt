@@ -1,12 +1,10 @@
 // Which things of a plant lie in the concept of a table.
-ghost use Rattle.std.specs.Prelude.{◌≡◌, ℕ, ◌+◌, ◌*◌, ◌<◌, ◌≤◌, false, List, [], ◌∷◌, ◌++◌, length, MatchOption};
-ghost use Rattle.concept.specs.Concepts.{Concept};
-ghost use Rattle.concept.specs.Plants.{inside};
-ghost use Rattle.concept.specs.Tables.{concept_of, reads};
-ghost use Rattle.finite_plant.specs.Answers.{Told, Unfit, Members};
+ghost use Rattle.std.specs.Prelude.{◌≡◌, ℕ, ◌≤◌, length, MatchOption};
+ghost use Rattle.concept.specs.Tables.{concept_of};
+ghost use Rattle.finite_plant.specs.Answers.{Unfit, Members};
 ghost use Rattle.finite_plant.specs.Data.{plant_of};
 
-use crate::lies::lies;
+use crate::answers::Answers;
 use crate::plant::FinitePlant;
 use concept::check::MOST_TERMS;
 use concept::node::Node;
@@ -15,25 +13,22 @@ use domain::Domain;
 // Answers are given for plants of at most this many things.
 pub const MOST_THINGS: usize = 64;
 
-const MOST_ANSWERS: usize = 4096;
-
-// Writes the answers of a node, for each thing, after those of the places below it.
-fn answer<D: Domain>(
-    domain: &D,
-    kinds: &[u32],
-    plant: &FinitePlant,
-    answers: &mut [bool],
-    places: usize,
-    node: Node,
-)
-    requires room { 64 * places + 64 ≤ length answers.old }
+// The row of the last node; there is none where there are no nodes.
+fn root_row<'a, D: Domain>(
+    domain: &'a D,
+    kinds: &'a [u32],
+    table: &[Node],
+    plant: &'a FinitePlant,
+) -> Option<[bool; MOST_THINGS]>
+    requires short { length table.now ≤ 64 }
     requires few { plant.now.count ≤ 64 }
-    ensures { (cs : List Concept) → length cs ≡ places → Told (D.meaning domain.now) (plant_of plant.now) cs answers.old → Told (D.meaning domain.now) (plant_of plant.now) (cs ++ (reads kinds.now cs node ∷ [])) answers.new }
+    ensures { MatchOption result (length table.now ≡ 0) (Members (D.meaning domain.now) (plant_of plant.now) (concept_of kinds.now table.now)) }
 {
-    for thing in 0..plant.count {
-        let inside = lies(domain, kinds, plant, answers, places, node, thing);
-        answers[64 * places + thing as usize] = inside;
+    let mut answers = Answers::new(domain, kinds, plant);
+    for node in table {
+        answers.push(*node);
     }
+    answers.rows.as_slice().last().copied()
 }
 
 // The things that lie in the concept of a table of nodes, one answer for each thing. There is no answer for a table without
@@ -46,15 +41,8 @@ pub fn members<D: Domain>(
 ) -> Option<[bool; 64]>
     ensures { MatchOption result (Unfit (length table.now) plant.now.count) (Members (D.meaning domain.now) (plant_of plant.now) (concept_of kinds.now table.now)) }
 {
-    if table.len() == 0 || table.len() > MOST_TERMS || plant.count as usize > MOST_THINGS {
+    if table.len() > MOST_TERMS || plant.count as usize > MOST_THINGS {
         return None;
     }
-    let mut answers = [false; MOST_ANSWERS];
-    for (place, node) in table.iter().enumerate() {
-        answer(domain, kinds, plant, &mut answers, place, *node);
-    }
-    let mut row = [false; 64];
-    let root = table.len() - 1;
-    row.copy_from_slice(&answers[64 * root..64 * root + 64]);
-    Some(row)
+    root_row(domain, kinds, table, plant)
 }

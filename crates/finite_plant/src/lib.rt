@@ -2,9 +2,8 @@
 #![tactic(auto)]
 
 mod answering;
+mod answers;
 mod entries;
-mod lies;
-mod node;
 mod plant;
 mod steps;
 

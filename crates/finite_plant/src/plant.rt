@@ -1,7 +1,7 @@
 // Plants written out as data.
 
 // The thing has the name.
-#[derive(Clone, Copy)]
+#[derive(Clone, Copy, PartialEq, Eq)]
 pub struct Named {
     pub name: u32,
     pub thing: u32,
@@ -24,7 +24,7 @@ pub struct Reading {
 }
 
 // The role joins one thing to another.
-#[derive(Clone, Copy)]
+#[derive(Clone, Copy, PartialEq, Eq)]
 pub struct Pair {
     pub role: u32,
     pub from: u32,

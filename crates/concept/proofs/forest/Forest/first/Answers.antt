@@ -1,5 +1,5 @@
-use Rattle.std.proofs.Common.{◌≤◌, sym, arith}
-use Rattle.std.proofs.lemmas.List.{take-take, length-take}
+use Rattle.std.proofs.Common.{◌≤◌, arith}
+use Rattle.std.proofs.lemmas.List.{length-take}
 use Rattle.concept.proofs.Items.{fields, cut_ordered}
 use Rattle.concept.proofs.forest.Forest.first.Goals as goal
 
@@ -8,8 +8,3 @@ invariant_of-result c =
     let f = c.args.self in
     let le : c.args.len ≤ f.len = omega (arith, c.requires, f.filled) in
     fields _ _ (omega arith) (omega (arith, f.filled, length-take f.len f.nodes)) (cut_ordered f.nodes c.args.len f.len le f.ordered)
-
-pub returns : goal.returns
-returns c =
-    let f = c.args.self in
-    sym (take-take c.args.len f.len f.nodes (omega (arith, c.requires, f.filled)))

@@ -1,5 +1,5 @@
 use Rattle.std.proofs.Common.{◌≡◌, ◌<◌, length, is_some, sym, ap, ◌∙◌, arith, rules}
-use Rattle.std.proofs.lemmas.List.{take_more_set, length-set}
+use Rattle.std.proofs.lemmas.List.{length-set}
 use Rattle.concept.specs.Forests.{rooted, roots}
 use Rattle.concept.specs.Held.{items}
 use Rattle.concept.proofs.Items.{fields, length_items, push_ordered}
@@ -13,14 +13,3 @@ invariant_of-result c =
     let room : f.len < 256 = omega (arith, c.requires.room) in
     fields _ _ (omega arith) (omega (arith, length-set f.nodes f.len c.args.node))
     (push_ordered f.nodes f.len c.args.node (omega arith) (ap (λ k. is_some (rooted k c.args.node (roots (items f)))) (sym same) ∙ c.requires.takes))
-
-pub returns : goal.returns
-returns c =
-    let f = c.args.self in
-    let n : length f.nodes ≡ 256 = search rules in
-    let same : length (items f) ≡ f.len = length_items f in
-    let room : f.len < length f.nodes = omega (arith, c.requires.room) in
-    record { longer = take_more_set f.nodes f.len c.args.node room; last = sym same }
-
-pub bounds-nodes-len : goal.bounds-nodes-len
-bounds-nodes-len c = omega (arith, c.requires.room, length_items c.args.self)

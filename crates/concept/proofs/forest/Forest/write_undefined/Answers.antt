@@ -1,72 +1,43 @@
-use Rattle.std.proofs.Common.{◌≡◌, sym, refl, ap, subst, arith}
+use Rattle.std.proofs.Common.{refl}
 use Rattle.concept.specs.declared.normal.Normal.TheVariants.{Lacks, Forall}
-use Rattle.concept.specs.Chains.{steps}
-use Rattle.concept.specs.Concepts.{Concept}
-use Rattle.concept.specs.Forests.{Grown}
-use Rattle.concept.specs.Held.{items}
-use Rattle.concept.specs.Normal.{nodes, undefined}
 use Rattle.concept.proofs.Trees.{leaf_as, all_grown}
-use Rattle.concept.proofs.Writing.{takes_leaf, takes_tree, undefined_one, undefined_two, undefined_three}
+use Rattle.concept.proofs.Writing.{takes_tree, grown_as, undefined_none, undefined_one, undefined_two, undefined_three}
 use Rattle.concept.proofs.forest.Forest.write_undefined.Goals as goal
 
--- no step, or one
-pub push-requires : goal.push-requires
-push-requires c =
-    let size : nodes (undefined (steps c.args.chain)) ≡ 1 = ap nodes (undefined_one c.args.chain c.then-chain-eq0.either) in
-    record { room = omega (arith, c.requires); takes = takes_leaf c.args.self (Lacks c.args.chain.first) refl }
+pub returns-in-0-default-default : goal.returns-in-0-default-default
+returns-in-0-default-default c = grown_as (undefined_none c.args.chain c.in-0-default-default.is-0) (leaf_as (Lacks 0) refl c.push.ensures)
 
-pub returns-then-chain-eq0 : goal.returns-then-chain-eq0
-returns-then-chain-eq0 c =
-    let form : Concept → Type 0 = Grown (items c.args.self) (items c.push.result.0) c.push.result.1 in
-    subst form (sym (undefined_one c.args.chain c.then-chain-eq0.either)) (leaf_as (Lacks c.args.chain.first) refl c.push.ensures)
+pub returns-in_default-eq0-default : goal.returns-in_default-eq0-default
+returns-in_default-eq0-default c =
+    let chain = c.args.chain in
+    grown_as (undefined_one chain c.in_default-eq0-default.is-0.1 c.in_default-eq0-default.is-1) (leaf_as (Lacks chain.first) refl c.push-in_default-eq0-default.ensures)
 
 -- two steps
-pub push-end-requires : goal.push-end-requires
-push-end-requires c =
-    let chain = c.args.chain in
-    let size : nodes (undefined (steps chain)) ≡ 2 = ap nodes (undefined_two chain c.if-chain-eq0.false c.if-chain-eq0-2.false c.if-chain-eq0-3.true) in
-    record { room = omega (arith, c.requires); takes = takes_leaf c.args.self (Lacks chain.second) refl }
+pub push-requires-in_default-default-eq0-clause-takes : goal.push-requires-in_default-default-eq0-clause-takes
+push-requires-in_default-default-eq0-clause-takes c =
+    takes_tree c.args.self (Forall c.args.chain.first c.push-end.result.1) (leaf_as (Lacks c.args.chain.second) refl c.push-end.ensures) refl
 
-pub push-requires-then-chain-eq0-3 : goal.push-requires-then-chain-eq0-3
-push-requires-then-chain-eq0-3 c =
+pub returns-in_default-default-eq0 : goal.returns-in_default-default-eq0
+returns-in_default-default-eq0 c =
     let chain = c.args.chain in
-    let size : nodes (undefined (steps chain)) ≡ 2 = ap nodes (undefined_two chain c.if-chain-eq0.false c.if-chain-eq0-2.false c.if-chain-eq0-3.true) in
-    let end = leaf_as (Lacks chain.second) refl c.push-end.ensures in
-    record { room = omega (arith, c.requires, end.longer); takes = takes_tree c.args.self (Forall chain.first c.push-end.result.1) end refl }
-
-pub returns-then-chain-eq0-3 : goal.returns-then-chain-eq0-3
-returns-then-chain-eq0-3 c =
-    let chain = c.args.chain in
-    let form : Concept → Type 0 = Grown (items c.args.self) (items c.push-then-chain-eq0-3.result.0) c.push-then-chain-eq0-3.result.1 in
-    let end = leaf_as (Lacks chain.second) refl c.push-end.ensures in
-    subst form (sym (undefined_two chain c.if-chain-eq0.false c.if-chain-eq0-2.false c.if-chain-eq0-3.true)) (all_grown chain.first end c.push-then-chain-eq0-3.ensures)
+    let way = c.in_default-default-eq0 in
+    grown_as (undefined_two chain way.is-0.1 way.is-1.1 way.is-2)
+    (all_grown chain.first (leaf_as (Lacks chain.second) refl c.push-end.ensures) c.push-in_default-default-eq0.ensures)
 
 -- three steps
-pub push-end-requires-2 : goal.push-end-requires-2
-push-end-requires-2 c =
-    let chain = c.args.chain in
-    let size : nodes (undefined (steps chain)) ≡ 3 = ap nodes (undefined_three chain c.if-chain-eq0.false c.if-chain-eq0-2.false c.if-chain-eq0-3.false) in
-    record { room = omega (arith, c.requires); takes = takes_leaf c.args.self (Lacks chain.third) refl }
+pub push-rest-requires-clause-takes : goal.push-rest-requires-clause-takes
+push-rest-requires-clause-takes c =
+    takes_tree c.args.self (Forall c.args.chain.second c.push-end-in_default.result.1) (leaf_as (Lacks c.args.chain.third) refl c.push-end-in_default.ensures) refl
 
-pub push-rest-requires : goal.push-rest-requires
-push-rest-requires c =
-    let chain = c.args.chain in
-    let size : nodes (undefined (steps chain)) ≡ 3 = ap nodes (undefined_three chain c.if-chain-eq0.false c.if-chain-eq0-2.false c.if-chain-eq0-3.false) in
-    let end = leaf_as (Lacks chain.third) refl c.push-end-2.ensures in
-    record { room = omega (arith, c.requires, end.longer); takes = takes_tree c.args.self (Forall chain.second c.push-end-2.result.1) end refl }
+pub push-requires-in_default-clause-takes : goal.push-requires-in_default-clause-takes
+push-requires-in_default-clause-takes c =
+    let end = leaf_as (Lacks c.args.chain.third) refl c.push-end-in_default.ensures in
+    takes_tree c.args.self (Forall c.args.chain.first c.push-rest.result.1) (all_grown c.args.chain.second end c.push-rest.ensures) refl
 
-pub push-requires-2 : goal.push-requires-2
-push-requires-2 c =
+pub returns-in_default : goal.returns-in_default
+returns-in_default c =
     let chain = c.args.chain in
-    let size : nodes (undefined (steps chain)) ≡ 3 = ap nodes (undefined_three chain c.if-chain-eq0.false c.if-chain-eq0-2.false c.if-chain-eq0-3.false) in
-    let end = leaf_as (Lacks chain.third) refl c.push-end-2.ensures in
-    let rest = all_grown chain.second end c.push-rest.ensures in
-    record { room = omega (arith, c.requires, rest.longer); takes = takes_tree c.args.self (Forall chain.first c.push-rest.result.1) rest refl }
-
-pub returns : goal.returns
-returns c =
-    let chain = c.args.chain in
-    let form : Concept → Type 0 = Grown (items c.args.self) (items c.push-2.result.0) c.push-2.result.1 in
-    let end = leaf_as (Lacks chain.third) refl c.push-end-2.ensures in
-    let rest = all_grown chain.second end c.push-rest.ensures in
-    subst form (sym (undefined_three chain c.if-chain-eq0.false c.if-chain-eq0-2.false c.if-chain-eq0-3.false)) (all_grown chain.first rest c.push-2.ensures)
+    let way = c.in_default in
+    let end = leaf_as (Lacks chain.third) refl c.push-end-in_default.ensures in
+    grown_as (undefined_three chain way.is-0.1 way.is-1.1 way.is-2.1)
+    (all_grown chain.first (all_grown chain.second end c.push-rest.ensures) c.push-in_default.ensures)
