@@ -4,9 +4,7 @@ use Rattle.domain.specs.Meaning.{Meaning}
 use Rattle.sheet.specs.declared.sheet.Sheet.{Sheet}
 use Rattle.sheet.specs.Showing.{view}
 use Rattle.sheet.specs.Views.{View, open_refusal, with_trial}
-use Rattle.history.specs.declared.call.Call.{Call}
 use Rattle.history.specs.declared.call.Call.TheVariants.{Open}
-use Rattle.history.specs.declared.call.Answer.{Answer}
 use Rattle.history.specs.declared.call.Answer.TheVariants.{Opened}
 use Rattle.history.specs.Playing.{Purse, opened_or}
 use Rattle.history.specs.Runs.{Performed}
@@ -24,9 +22,3 @@ module _ {D : Type 0} (m : Meaning) (before now : Sheet D) (p : Purse) where
         tokens = tokens;
         domain = same;
       }
-
-  -- the same, with the purse, the call and what is left of the purse written otherwise
-  pub rewritten :
-      (q rest left : Purse) (call other : Call) (a : Answer) → p ≡ q → call ≡ other → rest ≡ left → Performed m before q other now left a
-      → Performed m before p call now rest a
-  rewritten q rest left call other a e f g h = rw (e, f, g) h

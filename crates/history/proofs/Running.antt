@@ -1,17 +1,16 @@
 -- One call more in a run.
-use Rattle.std.proofs.Common.{◌≡◌, ℕ, ◌+◌, ◌-◌, ◌<◌, ◌≤◌, List, [], ◌∷◌, ◌++◌, length, Some, None, vec_items, vec_len, vec_capacity, Option, Vec, sym, refl, ap, ◌∙◌, arith}
+use Rattle.std.proofs.Common.{◌≡◌, ℕ, ◌+◌, ◌-◌, ◌<◌, List, [], ◌∷◌, ◌++◌, length, Some, None, vec_items, Option, sym, refl, ap, ◌∙◌, subst, arith}
 use Rattle.std.proofs.lemmas.List.{length_push}
-use Rattle.std.specs.declared.alloc.Global.{Global}
 use Rattle.domain.specs.Meaning.{Meaning}
 use Rattle.sheet.specs.declared.sheet.Sheet.{Sheet}
-use Rattle.sheet.specs.declared.trial.Token.{Token}
 use Rattle.sheet.specs.Showing.{view}
 use Rattle.sheet.specs.Views.{new_view}
 use Rattle.history.specs.declared.call.Call.{Call}
 use Rattle.history.specs.declared.call.Answer.{Answer}
+use Rattle.history.specs.declared.run.Run.{Run}
 use Rattle.history.specs.Histories.{Event, History}
 use Rattle.history.specs.Playing.{Purse, answer_to, event_of, then_event, then_purse, history_after, purse_after, AllRight, after_event}
-use Rattle.history.specs.Runs.{Performed, Sound}
+use Rattle.history.specs.Runs.{HasRoom, Performed, Recorded, Sound}
 use Rattle.history.specs.Tokens.{numbers}
 use Rattle.history.specs.Views.{view_of}
 use Rattle.history.proofs.Advance.{stepwise}
@@ -62,60 +61,46 @@ module _ (m : Meaning) where
     run_tokens = done.tokens ∙ (ap (λ q. then_purse q c a) tokens ∙ sym (purse_push p cs xs c a long))
 
 -- a run after the calls cs, of n in all
-pub record Underway {D : Type 0} (m : Meaning) (domain : D) (p : Purse) (n : ℕ) (cs : List Call) (sheet : Sheet D) (tokens : Vec (Option Token) Global) (answers : Vec Answer Global) : Type 0 where
-  pub right : AllRight m [] p cs (vec_items answers)
-  pub shows : view sheet ≡ view_of m (history_after [] cs (vec_items answers))
-  pub purse : numbers (vec_items tokens) ≡ purse_after p cs (vec_items answers)
-  pub same : sheet.domain ≡ domain
-  pub recorded : vec_len answers ≡ length cs
-  pub room : n ≤ vec_capacity answers
-  pub spare : vec_len tokens + (n - length cs) ≤ vec_capacity tokens
+pub record Underway {D : Type 0} (m : Meaning) (domain : D) (p : Purse) (n : ℕ) (cs : List Call) (run : Run D) : Type 0 where
+  pub sound : Sound m p cs run
+  pub same : run.sheet.domain ≡ domain
+  pub recorded : length cs ≡ length (vec_items run.answers)
+  pub room : HasRoom (n - length cs) run
 
 module _ {D : Type 0} (m : Meaning) (n : ℕ) where
-  pub started :
-      (sheet : Sheet D) (tokens : Vec (Option Token) Global) (answers : Vec Answer Global) → view sheet ≡ new_view → vec_items answers ≡ [] → vec_len answers ≡ 0
-      → n ≤ vec_capacity answers → vec_len tokens + n ≤ vec_capacity tokens → Underway m sheet.domain (numbers (vec_items tokens)) n [] sheet tokens answers
-  started sheet tokens answers empty none zero room spare =
+  pub started : (run : Run D) → view run.sheet ≡ new_view → vec_items run.answers ≡ [] → HasRoom n run → Underway m run.sheet.domain (numbers (vec_items run.tokens)) n [] run
+  started run empty none room =
+      let all : n ≡ n - 0 = omega arith in
       record {
-        right = rw none tt;
-        shows = empty;
-        purse = refl;
+        sound = record { right = rw none tt; holds = empty; tokens = refl };
         same = refl;
-        recorded = zero;
-        room = room;
-        spare = omega arith;
+        recorded = sym (ap length none);
+        room = subst (λ k. HasRoom k run) all room;
       }
 
-  module _ (domain : D) (p : Purse) (cs : List Call) (sheet now : Sheet D) (tokens rest : Vec (Option Token) Global) (answers more : Vec Answer Global) (c : Call) (a : Answer)
-      (u : Underway m domain p n cs sheet tokens answers) where
-    pub continued :
-        length cs < n → Performed m sheet (numbers (vec_items tokens)) c now (numbers (vec_items rest)) a → vec_items more ≡ vec_items answers ++ (a ∷ [])
-        → vec_len more ≡ vec_len answers + 1 → vec_capacity answers ≤ vec_capacity more → vec_len rest ≤ vec_len tokens + 1 → vec_capacity tokens ≤ vec_capacity rest
-        → Underway m domain p n (cs ++ (c ∷ [])) now rest more
-    continued lt done items len cap grown kept =
-        let long : length cs ≡ length (vec_items answers) = sym u.recorded ∙ answers.ok.0 in
-        let room = u.room in
-        let spare = u.spare in
-        let recorded = u.recorded in
+  module _ (domain : D) (p : Purse) (cs : List Call) (before after : Run D) (c : Call) (u : Underway m domain p n cs before) where
+    pub continued : length cs < n → Recorded m before c after → ((k : ℕ) → HasRoom (k + 1) before → HasRoom k after) → Underway m domain p n (cs ++ (c ∷ [])) after
+    continued lt r room =
+        let a = r.answer in
+        let xs = vec_items before.answers in
+        let old = numbers (vec_items before.tokens) in
+        let new = numbers (vec_items after.tokens) in
+        let s = u.sound in
         let size = length_push cs c in
+        let left : n - length cs ≡ n - length (cs ++ (c ∷ [])) + 1 = omega arith in
         record {
-          right = rw items (run_right m p cs (vec_items answers) long sheet now (numbers (vec_items tokens)) (numbers (vec_items rest)) c a u.right u.shows u.purse done);
-          shows = run_shows m p cs (vec_items answers) long sheet now (numbers (vec_items tokens)) (numbers (vec_items rest)) c a u.right u.shows u.purse done ∙ ap (λ xs. view_of m (history_after [] (cs ++ (c ∷ [])) xs)) (sym items);
-          purse = run_tokens m p cs (vec_items answers) long sheet now (numbers (vec_items tokens)) (numbers (vec_items rest)) c a u.right u.shows u.purse done ∙ ap (purse_after p (cs ++ (c ∷ []))) (sym items);
-          same = done.domain ∙ u.same;
-          recorded = omega arith;
-          room = omega arith;
-          spare = omega arith;
+          sound =
+              record {
+                right = rw r.last (run_right m p cs xs u.recorded before.sheet after.sheet old new c a s.right s.holds s.tokens r.performed);
+                holds = rw r.last (run_shows m p cs xs u.recorded before.sheet after.sheet old new c a s.right s.holds s.tokens r.performed);
+                tokens = rw r.last (run_tokens m p cs xs u.recorded before.sheet after.sheet old new c a s.right s.holds s.tokens r.performed);
+              };
+          same = r.performed.domain ∙ u.same;
+          recorded = omega (arith, size, u.recorded, ap length r.last, length_push xs a);
+          room = room (n - length (cs ++ (c ∷ []))) (subst (λ k. HasRoom k before) left u.room);
         }
 
 pub finished :
-    {D : Type 0} (meaning : D → Meaning) (domain first : D) (p q : Purse) (n : ℕ) (cs all : List Call) (sheet : Sheet D) (tokens : Vec (Option Token) Global) (answers : Vec Answer Global)
-    → domain ≡ first → p ≡ q → cs ≡ all → Underway (meaning domain) domain p n cs sheet tokens answers
-    → Sound (meaning first) q all (record { sheet = sheet; tokens = tokens; answers = answers })
-finished meaning domain first p q n cs all sheet tokens answers d e f u =
-    let m : meaning domain ≡ meaning first = ap meaning d in
-    record {
-      right = rw (← m, ← e, ← f) u.right;
-      holds = rw (← m, ← f) u.shows;
-      tokens = rw (← e, ← f) u.purse;
-    }
+    {D : Type 0} (meaning : D → Meaning) (domain first : D) (p q : Purse) (n : ℕ) (cs all : List Call) (run : Run D)
+    → domain ≡ first → p ≡ q → cs ≡ all → Underway (meaning domain) domain p n cs run → Sound (meaning first) q all run
+finished meaning domain first p q n cs all run d e f u = let m : meaning domain ≡ meaning first = ap meaning d in rw (← m, ← e, ← f) u.sound

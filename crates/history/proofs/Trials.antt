@@ -1,11 +1,12 @@
 -- Lists of open trials, rising by number.
-use Rattle.std.proofs.Common.{◌≡◌, ℕ, zero, suc, ◌+◌, ◌-◌, ◌<◌, ◌≤◌, Bool, true, false, cond, not, ◌&&◌, eqb, ltb, ◌⊎◌, List, [], ◌∷◌, ◌++◌, length, get_or, take, Some, None, sym, refl, ap, ◌∙◌, ap₂, inl, inr, arith}
-use Rattle.std.proofs.lemmas.List.{take_at, append-nil, append_assoc, get_or_at}
+use Rattle.std.proofs.Common.{◌≡◌, ℕ, zero, suc, ◌-◌, ◌<◌, ◌≤◌, Bool, true, false, cond, ◌&&◌, eqb, ltb, ◌⊎◌, List, [], ◌∷◌, ◌++◌, length, get_or, take, Some, None, sym, refl, ap, ◌∙◌, ap₂, inl, inr, arith}
+use Rattle.std.specs.List.{All, position, position_or_len}
+use Rattle.std.proofs.lemmas.List.{take_at, append-nil, append_assoc, get_or_at, get_or_append_left, length-append}
+use Rattle.std.proofs.lemmas.List.Elements.{All-nil, All-cons, All-append}
+use Rattle.std.proofs.lemmas.List.Sums.{position_or_len_is}
 use Rattle.std.proofs.lemmas.Bool.{cases_eq, eq-eqb, ne_eqb, lt-ltb, le-ltb, cond-true, cond-false}
-use Rattle.std.proofs.ByRecursion.{All-append}
-use Rattle.std.specs.List.{AllByRecursion}
-use Rattle.domain.specs.Solving.{first_failing}
 use Rattle.sheet.specs.declared.trial.Trial.{Trial}
+use Rattle.sheet.specs.Views.{no_trial}
 use Rattle.history.specs.Views.{trials_up_to}
 
 -- one trial or none
@@ -49,75 +50,70 @@ module _ (test : ℕ → Bool) (mark : ℕ → ℕ) where
       let p = front k n h in ap (take (length (trials_up_to test mark k))) p.1 ∙ take_at (trials_up_to test mark k) p.0 _ refl
 
   -- no trial up to n has the number a
-  other_numbers : (a n : ℕ) → (n < a) ⊎ (test a ≡ false) → AllByRecursion (λ (t : Trial). not (eqb t.number a) ≡ true) (trials_up_to test mark n)
-  other_numbers a zero h = tt
+  other_numbers : (a n : ℕ) → (n < a) ⊎ (test a ≡ false) → All (λ (t : Trial). eqb t.number a ≡ false) (trials_up_to test mark n)
+  other_numbers a zero h = All-nil (λ (t : Trial). eqb t.number a ≡ false)
   other_numbers a (suc n) h =
-      All-append (λ (t : Trial). not (eqb t.number a) ≡ true) (trials_up_to test mark n) (one_if test mark (suc n)) (other_numbers a n (less h)) (here (test (suc n)) refl h)
+      All-append (λ (t : Trial). eqb t.number a ≡ false) (trials_up_to test mark n) (one_if test mark (suc n)) (other_numbers a n (less h)) (here (test (suc n)) refl h)
     where
       less : (suc n < a) ⊎ (test a ≡ false) → (n < a) ⊎ (test a ≡ false)
       less (inl l) = inl (omega arith)
       less (inr e) = inr e
 
+      other : test (suc n) ≡ true → (suc n < a) ⊎ (test a ≡ false) → suc n ≡ a → ⊥
+      other e (inl l) q = omega arith
+      other e (inr f) q = let z : ◌≡◌ {A = Bool} true false = sym e ∙ (ap test q ∙ f) in let y : ◌≡◌ {A = ℕ} 0 1 = cc in omega arith
+
       here : (b : Bool) → test (suc n) ≡ b → (suc n < a) ⊎ (test a ≡ false)
-          → AllByRecursion (λ (t : Trial). not (eqb t.number a) ≡ true) (cond b (record { number = suc n; mark = mark (suc n) } ∷ []) [])
-      here false e d = tt
-      here true e (inl l) = let ne : suc n ≡ a → ⊥ = λ q. omega arith in (ap not (ne_eqb (suc n) a ne), tt)
-      here true e (inr f) =
-          let ne : suc n ≡ a → ⊥ = λ q. (let z : ◌≡◌ {A = Bool} true false = sym e ∙ (ap test q ∙ f) in let y : ◌≡◌ {A = ℕ} 0 1 = cc in omega arith) in
-          (ap not (ne_eqb (suc n) a ne), tt)
+          → All (λ (t : Trial). eqb t.number a ≡ false) (cond b (record { number = suc n; mark = mark (suc n) } ∷ []) [])
+      here false e d = All-nil (λ (t : Trial). eqb t.number a ≡ false)
+      here true e d = All-cons (λ (t : Trial). eqb t.number a ≡ false) _ [] (ne_eqb (suc n) a (other e d)) (All-nil (λ (t : Trial). eqb t.number a ≡ false))
 
--- searching a list of which the front does not fail
-passing : (p : Trial → Bool) (i : ℕ) (xs ys : List Trial) → AllByRecursion (λ t. p t ≡ true) xs → first_failing p i (xs ++ ys) ≡ first_failing p (i + length xs) ys
-passing p i [] ys h = ap (λ k. first_failing p k ys) (omega arith)
-passing p i (x ∷ xs) ys h =
-    cond-true (p x) _ _ h.0 ∙ (passing p (i + 1) xs ys h.1 ∙ ap (λ k. first_failing p k ys) (omega arith))
+-- the first that passes, where what stands before it fails, and where all fail
+found_behind : (p : Trial → Bool) (xs ys : List Trial) (x : Trial) → All (λ t. p t ≡ false) xs → p x ≡ true → position p (xs ++ (x ∷ ys)) ≡ Some (length xs)
+found_behind p xs ys x fails passes =
+    let long = length-append xs (x ∷ ys) in
+    let first : position_or_len p (xs ++ (x ∷ ys)) ≡ length xs =
+    position_or_len_is p (xs ++ (x ∷ ys)) (length xs) x (omega arith) (λ k h. ap p (get_or_append_left xs (x ∷ ys) x k h) ∙ fails k x h)
+    (λ h. ap p (get_or_at xs x ys x _ refl) ∙ passes) in
+    cond-true _ _ _ (lt-ltb (position_or_len p (xs ++ (x ∷ ys))) (length (xs ++ (x ∷ ys))) (omega arith)) ∙ ap Some first
 
-found_front : (p : Trial → Bool) (i k : ℕ) (xs ys : List Trial) → first_failing p i xs ≡ Some k → first_failing p i (xs ++ ys) ≡ Some k
-found_front p i k [] ys e = let z : ◌≡◌ {A = ℕ} 0 1 = cc in absurd (omega arith)
-found_front p i k (x ∷ xs) ys e = go (p x) refl (λ q. found_front p (i + 1) k xs ys q)
-  where
-    go : (b : Bool) → p x ≡ b → (first_failing p (i + 1) xs ≡ Some k → first_failing p (i + 1) (xs ++ ys) ≡ Some k) → first_failing p i (x ∷ (xs ++ ys)) ≡ Some k
-    go true t more = cond-true (p x) _ _ t ∙ more (sym (cond-true (p x) _ _ t) ∙ e)
-    go false t more = cond-false (p x) _ _ t ∙ (sym (cond-false (p x) _ _ t) ∙ e)
+found_nowhere : (p : Trial → Bool) (xs : List Trial) → All (λ t. p t ≡ false) xs → position p xs ≡ None
+found_nowhere p xs fails =
+    let last = position_or_len_is p xs (length xs) no_trial (omega arith) (λ k h. fails k no_trial h) (λ h. absurd (omega arith)) in
+    cond-false _ _ _ (le-ltb (position_or_len p xs) (length xs) (omega arith))
 
 module _ (test : ℕ → Bool) (mark : ℕ → ℕ) (a : ℕ) where
-  abbrev seeks : Trial → Bool
-  seeks t = not (eqb t.number a)
-
-  -- where the trial a stands
-  pub place_found : (n : ℕ) → 0 < a → a ≤ n → test a ≡ true
-      → first_failing seeks 0 (trials_up_to test mark n) ≡ Some (length (trials_up_to test mark (a - 1)))
-  place_found zero p h t = absurd (omega arith)
-  place_found (suc n) p h t = go (cases_eq a (suc n)) (λ l. place_found n p l t)
-    where
-      go : (a ≡ suc n) ⊎ (a ≡ suc n → ⊥) → (a ≤ n → first_failing seeks 0 (trials_up_to test mark n) ≡ Some (length (trials_up_to test mark (a - 1))))
-          → first_failing seeks 0 (trials_up_to test mark (suc n)) ≡ Some (length (trials_up_to test mark (a - 1)))
-      go (inl e) more =
-          let back : n ≡ a - 1 = omega arith in
-          let here : test (suc n) ≡ true = ap test (sym e) ∙ t in
-          passing seeks 0 (trials_up_to test mark n) (one_if test mark (suc n)) (other_numbers test mark a n (inl (omega arith)))
-          ∙ (ap (first_failing seeks (0 + length (trials_up_to test mark n))) (cond-true (test (suc n)) _ _ here)
-          ∙ (cond-false (seeks (record { number = suc n; mark = mark (suc n) })) _ _ (ap not (eq-eqb (suc n) a (sym e)))
-          ∙ ap Some (omega (arith, ap (λ k. length (trials_up_to test mark k)) back))))
-      go (inr ne) more = found_front seeks 0 _ (trials_up_to test mark n) (one_if test mark (suc n)) (more (omega arith))
-
-  pub place_missing : (n : ℕ) → test a ≡ false → first_failing seeks 0 (trials_up_to test mark n) ≡ None
-  place_missing n t =
-      ap (first_failing seeks 0) (sym (append-nil (trials_up_to test mark n)))
-      ∙ passing seeks 0 (trials_up_to test mark n) [] (other_numbers test mark a n (inr t))
-
-  -- the mark of the trial a
-  pub mark_found : (n : ℕ) (d : Trial) → 0 < a → a ≤ n → test a ≡ true
-      → (get_or (trials_up_to test mark n) (length (trials_up_to test mark (a - 1))) d).mark ≡ mark a
-  mark_found n d p h t =
+  -- the trial a stands behind those below it
+  stands : (n : ℕ) → 0 < a → a ≤ n → test a ≡ true
+      → (rest : List Trial) × (trials_up_to test mark n ≡ trials_up_to test mark (a - 1) ++ (record { number = a; mark = mark a } ∷ rest))
+  stands n p h t =
       let k : ℕ = a - 1 in
       let up : suc k ≡ a = omega arith in
       let f = front test mark (suc k) n (omega arith) in
-      let here : test (suc k) ≡ true = ap test up ∙ t in
-      let shape : trials_up_to test mark n ≡ trials_up_to test mark k ++ (record { number = suc k; mark = mark (suc k) } ∷ f.0) =
-      f.1 ∙ (ap (λ r. (trials_up_to test mark k ++ r) ++ f.0) (cond-true (test (suc k)) _ _ here) ∙ append_assoc (trials_up_to test mark k) _ f.0) in
-      ap (λ (r : List Trial). (get_or r (length (trials_up_to test mark k)) d).mark) shape
-      ∙ (ap (λ (r : Trial). r.mark) (get_or_at (trials_up_to test mark k) _ f.0 d _ refl) ∙ ap mark up)
+      let here : test (suc k) ≡ true = ap test up ∙ t in (
+        f.0,
+        f.1
+            ∙ (ap (λ r. (trials_up_to test mark k ++ r) ++ f.0) (cond-true (test (suc k)) _ _ here)
+            ∙ (append_assoc (trials_up_to test mark k) _ f.0 ∙ ap (λ b. trials_up_to test mark k ++ (record { number = b; mark = mark b } ∷ f.0)) up)),
+      )
+
+  -- where the trial a stands, if it does, and its mark
+  pub place_found : (n : ℕ) → 0 < a → a ≤ n → test a ≡ true
+      → position (λ (t : Trial). eqb t.number a) (trials_up_to test mark n) ≡ Some (length (trials_up_to test mark (a - 1)))
+  place_found n p h t =
+      let s = stands n p h t in
+      ap (position (λ (t : Trial). eqb t.number a)) s.1
+      ∙ found_behind (λ (t : Trial). eqb t.number a) (trials_up_to test mark (a - 1)) s.0 _ (other_numbers test mark a (a - 1) (inl (omega arith))) (eq-eqb a a refl)
+
+  pub place_missing : (n : ℕ) → test a ≡ false → position (λ (t : Trial). eqb t.number a) (trials_up_to test mark n) ≡ None
+  place_missing n t = found_nowhere (λ (t : Trial). eqb t.number a) (trials_up_to test mark n) (other_numbers test mark a n (inr t))
+
+  pub mark_found : (n : ℕ) (d : Trial) → 0 < a → a ≤ n → test a ≡ true
+      → (get_or (trials_up_to test mark n) (length (trials_up_to test mark (a - 1))) d).mark ≡ mark a
+  mark_found n d p h t =
+      let s = stands n p h t in
+      ap (λ (r : List Trial). (get_or r (length (trials_up_to test mark (a - 1))) d).mark) s.1
+      ∙ ap (λ (r : Trial). r.mark) (get_or_at (trials_up_to test mark (a - 1)) _ s.0 d _ refl)
 
   -- closing: nothing from a on is left
   pub closed_trials : (sign : ℕ → ℕ) (n : ℕ) → ((k : ℕ) → 0 < k → k < a → sign k ≡ mark k) → 0 < a → a ≤ suc n

@@ -1,4 +1,7 @@
 // The calls of a history, and their answers.
+ghost use Rattle.std.specs.Prelude.{◌≡◌};
+ghost use Rattle.history.specs.Playing.{told};
+
 use concept::node::Node;
 use sheet::refusal::Refusal;
 use sheet::statement::Reading;
@@ -19,7 +22,7 @@ pub enum Call<'a> {
 }
 
 // What a call answered.
-#[derive(Clone, Copy)]
+#[derive(Clone, Copy, PartialEq, Eq, Debug)]
 pub enum Answer {
     // the token that the call names is not there, or was spent: nothing was called
     NoToken,
@@ -29,4 +32,15 @@ pub enum Answer {
     Opened(u32),
     // the number of the token that was spent, and how many trials closed
     Closed(u32, usize),
+}
+
+impl From<Result<(), Refusal>> for Answer {
+    ghost from_gives = { λ outcome answer. answer ≡ told outcome };
+
+    fn from(outcome: Result<(), Refusal>) -> Answer {
+        match outcome {
+            Ok(()) => Answer::Accepted,
+            Err(refusal) => Answer::Refused(refusal),
+        }
+    }
 }

@@ -1,90 +1,78 @@
-// Performs one call.
-ghost use Rattle.std.specs.Prelude.{◌≡◌, ℕ, ◌+◌, ◌<◌, ◌≤◌, vec_len, vec_capacity};
+// Performs the calls of a run, one at a time.
+ghost use Rattle.std.specs.Prelude.{◌≡◌, ℕ, ◌+◌, ◌<◌, None, slice_index_or, slice_set, vec_len, vec_capacity};
 ghost use Rattle.history.specs.Tokens.{numbers};
-ghost use Rattle.history.specs.Runs.{Performed};
-ghost use Rattle.history.specs.declared.call.Call.TheVariants.{Open, Keep, Drop};
-ghost use Rattle.history.specs.Playing.{told};
+ghost use Rattle.history.specs.Runs.{AtMostOneMore, ClosedBy, HasRoom, Performed, Recorded};
+ghost use Rattle.history.specs.declared.call.Call.TheVariants.{Open};
 
 use crate::call::{Answer, Call};
+use crate::run::Run;
 use crate::tokens::take_token;
 use domain::Domain;
-use sheet::refusal::Refusal;
 use sheet::sheet::Sheet;
 use sheet::trial::Token;
 
-fn answer_of(res: Result<(), Refusal>) -> Answer
-    ensures { result ≡ told res }
-{
-    match res {
-        Ok(()) => Answer::Accepted,
-        Err(refusal) => Answer::Refused(refusal),
+impl<D: Domain> Run<D> {
+    // Performs one call, and records what it answered.
+    pub(crate) fn perform(&mut self, call: Call<'_>)
+        requires { HasRoom 1 self.old }
+        ensures done { Recorded (D.meaning self.old.sheet.domain) self.old call.entry self.new }
+        ensures room { (n : ℕ) → HasRoom (n + 1) self.old → HasRoom n self.new }
+    {
+        let answer = self.answer(call);
+        let _ = self.answers.push(answer);
     }
-}
 
-// Opens a trial; its token comes last among those at hand.
-fn open<D: Domain>(sheet: &mut Sheet<D>, tokens: &mut Vec<Option<Token>>) -> Answer
-    requires { vec_len tokens.old < vec_capacity tokens.old }
-    ensures done { Performed (D.meaning sheet.old.domain) sheet.old (numbers tokens.old.items) Open sheet.new (numbers tokens.new.items) result }
-    ensures room { (vec_len tokens.new ≤ vec_len tokens.old + 1) × (vec_capacity tokens.old ≤ vec_capacity tokens.new) }
-{
-    match sheet.open_trial() {
-        Err(refusal) => Answer::Refused(refusal),
-        Ok(token) => {
-            let number = token.number();
-            match tokens.push(Some(token)) {
-                Ok(()) => Answer::Opened(number),
-                Err(_) => unreachable(),
+    // What a call answers that is made now.
+    fn answer(&mut self, call: Call<'_>) -> Answer
+        requires { vec_len self.old.tokens < vec_capacity self.old.tokens }
+        ensures done { Performed (D.meaning self.old.sheet.domain) self.old.sheet (numbers self.old.tokens.items) call.entry self.new.sheet (numbers self.new.tokens.items) result }
+        ensures room { AtMostOneMore self.old.tokens self.new.tokens }
+        ensures recorded { self.new.answers ≡ self.old.answers }
+    {
+        match call {
+            Call::Open => self.open(),
+            Call::SetUp(objects, kinds) => Answer::from(self.sheet.set_up(objects, kinds)),
+            Call::State(object, table) => Answer::from(self.sheet.state(object, table)),
+            Call::Link(from, relation, to) => Answer::from(self.sheet.link(from, relation, to)),
+            Call::Apart(a, b) => Answer::from(self.sheet.set_apart(a, b)),
+            Call::Compare(form, constant, left, right) => {
+                Answer::from(self.sheet.compare(form, constant, left, right))
+            }
+            Call::Keep(place) => self.spend(place, Sheet::keep_trial),
+            Call::Drop(place) => self.spend(place, Sheet::drop_trial),
+        }
+    }
+
+    // Opens a trial; its token comes last among those at hand.
+    fn open(&mut self) -> Answer
+        requires { vec_len self.old.tokens < vec_capacity self.old.tokens }
+        ensures done { Performed (D.meaning self.old.sheet.domain) self.old.sheet (numbers self.old.tokens.items) Open self.new.sheet (numbers self.new.tokens.items) result }
+        ensures room { AtMostOneMore self.old.tokens self.new.tokens }
+        ensures recorded { self.new.answers ≡ self.old.answers }
+    {
+        match self.sheet.open_trial() {
+            Err(refusal) => Answer::Refused(refusal),
+            Ok(token) => {
+                let number = token.number();
+                match self.tokens.push(Some(token)) {
+                    Ok(()) => Answer::Opened(number),
+                    Err(_) => unreachable(),
+                }
             }
         }
     }
-}
 
-// Keeps the trial of the token at this place.
-fn keep<D: Domain>(sheet: &mut Sheet<D>, tokens: &mut [Option<Token>], place: usize) -> Answer
-    ensures { Performed (D.meaning sheet.old.domain) sheet.old (numbers tokens.old) (Keep place) sheet.new (numbers tokens.new) result }
-{
-    match take_token(tokens, place) {
-        None => Answer::NoToken,
-        Some(token) => {
-            let number = token.number();
-            Answer::Closed(number, sheet.keep_trial(token))
+    // Spends the token at this place, if one is there, by closing its trial.
+    fn spend<F: FnOnce(&mut Sheet<D>, Token) -> usize>(&mut self, place: usize, close: F) -> Answer
+        requires { F.IsAlwaysCallable close }
+        ensures spent { numbers self.new.tokens.items ≡ slice_set (numbers self.old.tokens.items) place None }
+        ensures closed { ClosedBy F.FnOnce close self.old.sheet (slice_index_or (numbers self.old.tokens.items) place None) self.new.sheet result }
+        ensures room { AtMostOneMore self.old.tokens self.new.tokens }
+        ensures recorded { self.new.answers ≡ self.old.answers }
+    {
+        match take_token(self.tokens.as_mut_slice(), place) {
+            None => Answer::NoToken,
+            Some(token) => Answer::Closed(token.number(), close(&mut self.sheet, token)),
         }
-    }
-}
-
-// Drops the trial of the token at this place.
-fn discard<D: Domain>(sheet: &mut Sheet<D>, tokens: &mut [Option<Token>], place: usize) -> Answer
-    ensures { Performed (D.meaning sheet.old.domain) sheet.old (numbers tokens.old) (Drop place) sheet.new (numbers tokens.new) result }
-{
-    match take_token(tokens, place) {
-        None => Answer::NoToken,
-        Some(token) => {
-            let number = token.number();
-            Answer::Closed(number, sheet.drop_trial(token))
-        }
-    }
-}
-
-// Performs one call on the sheet, with these tokens at hand, and answers what it answered.
-pub fn perform<D: Domain>(
-    sheet: &mut Sheet<D>,
-    tokens: &mut Vec<Option<Token>>,
-    call: Call<'_>,
-) -> Answer
-    requires { vec_len tokens.old < vec_capacity tokens.old }
-    ensures done { Performed (D.meaning sheet.old.domain) sheet.old (numbers tokens.old.items) call.entry sheet.new (numbers tokens.new.items) result }
-    ensures room { (vec_len tokens.new ≤ vec_len tokens.old + 1) × (vec_capacity tokens.old ≤ vec_capacity tokens.new) }
-{
-    match call {
-        Call::Open => open(sheet, tokens),
-        Call::SetUp(objects, kinds) => answer_of(sheet.set_up(objects, kinds)),
-        Call::State(object, table) => answer_of(sheet.state(object, table)),
-        Call::Link(from, relation, to) => answer_of(sheet.link(from, relation, to)),
-        Call::Apart(a, b) => answer_of(sheet.set_apart(a, b)),
-        Call::Compare(form, constant, left, right) => {
-            answer_of(sheet.compare(form, constant, left, right))
-        }
-        Call::Keep(place) => keep(sheet, tokens.as_mut_slice(), place),
-        Call::Drop(place) => discard(sheet, tokens.as_mut_slice(), place),
     }
 }

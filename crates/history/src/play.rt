@@ -4,7 +4,6 @@ ghost use Rattle.history.specs.Tokens.{numbers};
 ghost use Rattle.history.specs.Runs.{Sound};
 
 use crate::call::Call;
-use crate::perform::perform;
 use crate::run::{Run, Unplayed};
 use domain::Domain;
 use sheet::sheet::Sheet;
@@ -21,20 +20,19 @@ pub fn play<D: Domain>(
 ) -> Result<Run<D>, Unplayed<D>>
     ensures { MatchResult result (Sound (D.meaning domain) (numbers tokens.items) calls.now) (λ u. (u.domain ≡ domain) × (u.tokens.items ≡ tokens.items)) }
 {
-    let Ok(mut answers) = Vec::with_capacity(heap, calls.len()) else {
+    let Ok(answers) = Vec::with_capacity(heap, calls.len()) else {
         return Err(Unplayed { domain, tokens });
     };
     if tokens.reserve(calls.len()).is_err() {
         return Err(Unplayed { domain, tokens });
     }
-    let mut sheet = Sheet::new(domain);
-    for call in calls {
-        let answer = perform(&mut sheet, &mut tokens, *call);
-        let _ = answers.push(answer);
-    }
-    Ok(Run {
-        sheet,
+    let mut run = Run {
+        sheet: Sheet::new(domain),
         tokens,
         answers,
-    })
+    };
+    for call in calls {
+        run.perform(*call);
+    }
+    Ok(run)
 }

@@ -10,6 +10,7 @@ pub fn take_token(tokens: &mut [Option<Token>], place: usize) -> Option<Token>
     ensures taken { number_in result ≡ slice_index_or (numbers tokens.old) place None }
     ensures left { numbers tokens.new ≡ slice_set (numbers tokens.old) place None }
 {
+    // by index: the proof does not close over `get_mut`, where it lacks what the lent place leaves in the list
     if place >= tokens.len() {
         return None;
     }

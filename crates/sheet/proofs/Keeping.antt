@@ -1,6 +1,6 @@
 -- What a sheet always holds of its stored statements, and how it is kept.
-use Rattle.std.proofs.Common.{◌≡◌, ℕ, ◌+◌, ◌*◌, ◌<◌, ◌≤◌, true, eqb, leb, List, [], ◌∷◌, ◌++◌, map, length, take, sym, refl, ap, ◌∙◌, ap₂, mul-zero, arith}
-use Rattle.std.proofs.lemmas.List.{length-map, length-take, length-take-le, map_push}
+use Rattle.std.proofs.Common.{◌≡◌, ℕ, ◌+◌, ◌*◌, ◌<◌, ◌≤◌, true, eqb, leb, List, [], ◌∷◌, ◌++◌, map, length, sym, refl, ap, ◌∙◌, ap₂, mul-zero, arith}
+use Rattle.std.proofs.lemmas.List.{length-map, length-take, map_push}
 use Rattle.std.proofs.lemmas.List.Sums.{fold_push}
 use Rattle.std.proofs.lemmas.Bool.{and_parts, and_from, eqb-true, eq-eqb, leb-true, le-leb}
 use Rattle.concept.specs.declared.forest.Forest.{Forest}
@@ -12,7 +12,7 @@ use Rattle.sheet.specs.declared.statement.Stored.TheVariants.{Apart, Concept as 
 use Rattle.sheet.specs.declared.totals.Totals.{Totals}
 use Rattle.sheet.specs.Layout.{shown, in_force, length_after, laid_one, laid, total_length, sound}
 use Rattle.sheet.specs.Statements.{comparisons_of, others_of, v_of, k_of, x_of}
-use Rattle.sheet.specs.Totals.{totals_of, nothing, weight_of, plus, tally}
+use Rattle.sheet.specs.Totals.{Small, totals_of, nothing, weight_of, plus, tally}
 use Rattle.sheet.proofs.Laying.{total_sum, total_push, laid_push}
 use Rattle.sheet.proofs.Summing.{tally_none, tally_nodes, tally_valued, tally_others, n_right, v_right, k_right, x_right, r_right, few_statements, sum_valued}
 
@@ -92,6 +92,10 @@ module _ (f : Forest) (m : ℕ) (xs : List Stored) where
     pub few_others : (tally xs).others ≤ 64
     few_others = (sound_parts e).others
 
+    pub all_small : Small (tally xs)
+    all_small =
+        (omega (arith, few_nodes), (omega (arith, few_valued), (omega (arith, few_comparisons), omega (arith, few_others))))
+
     -- and so does their number
     pub few_stored : length xs ≤ length (items f) + (tally xs).others
     few_stored = omega (arith, few_statements (trees (items f)) 0 xs (sound_parts e).planted, (sound_parts e).filled, tally_others xs)
@@ -160,9 +164,9 @@ none_sound f m e =
     }
 
 -- where fewer than 64 are no concepts, there is room for one more
-pub room_for_other : (f : Forest) (m : ℕ) (xs : List Stored) (n : ℕ) → n ≤ length xs → sound f m (take n xs) ≡ true → x_of (in_force f (take n xs)) < 64 → n < 320
-room_for_other f m xs n le e room =
-    omega (arith, few_stored f m (take n xs) e, few_items f, ap (λ (a : Totals). a.others) (totals_right f m (take n xs) e), length-take-le n xs le)
+pub room_for_other : (f : Forest) (m : ℕ) (xs : List Stored) → sound f m xs ≡ true → x_of (in_force f xs) < 64 → length xs < 320
+room_for_other f m xs e room =
+    omega (arith, few_stored f m xs e, few_items f, ap (λ (a : Totals). a.others) (totals_right f m xs e))
 
 pub values_kept : (f : Forest) (m : ℕ) (xs : List Stored) → sound f m xs ≡ true → k_of (in_force f xs) + m * v_of (in_force f xs) ≤ 256
 values_kept f m xs e =
@@ -170,10 +174,9 @@ values_kept f m xs e =
     rw (ap (λ (a : Totals). a.comparisons) t, ap (λ (a : Totals). a.valued) t) (sound_parts f m xs e).values
 
 -- before setting up nothing is stored, so any number of objects will do
-pub unstated_sound : (f : Forest) (m m' : ℕ) (xs : List Stored) (n : ℕ) → n ≡ 0 → sound f m (take n xs) ≡ true → sound f m' (take n xs) ≡ true
-unstated_sound f m m' xs n e h =
-    let none : take n xs ≡ [] = ap (λ k. take k xs) e in
-    rw none (none_sound f m' (sym (sound_parts f m [] (rw none at h)).filled))
+pub unstated_sound : (f : Forest) (m m' : ℕ) (xs : List Stored) → length xs ≡ 0 → sound f m xs ≡ true → sound f m' xs ≡ true
+unstated_sound f m m' [] e h = none_sound f m' (sym (sound_parts f m [] h).filled)
+unstated_sound f m m' (x ∷ xs) e h = absurd (omega arith)
 
 pub values_small : (f : Forest) (m : ℕ) (xs : List Stored) (t : Totals) → sound f m xs ≡ true → t ≡ totals_of (in_force f xs) → t.comparisons + m * t.valued ≤ 256
 values_small f m xs t e is = rw is (values_kept f m xs e)

@@ -1,4 +1,5 @@
 pub mod Accepting
+pub mod Answering
 pub mod Bounding
 pub mod Keeping
 pub mod Laying

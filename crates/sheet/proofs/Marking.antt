@@ -1,6 +1,5 @@
 -- The marks of open trials: one trial more, a front of them, and a later or an earlier top.
-use Rattle.std.proofs.Common.{◌≡◌, ℕ, zero, suc, ◌<◌, ◌≤◌, true, leb, List, [], ◌∷◌, ◌++◌, length, get_or, take, sym, ap, ◌∙◌, ap₂, arith}
-use Rattle.std.proofs.lemmas.List.{get_or-take, length-take-le, take-take}
+use Rattle.std.proofs.Common.{◌≡◌, ℕ, zero, suc, ◌<◌, ◌≤◌, true, leb, List, [], ◌∷◌, ◌++◌, length, get_or, take, arith}
 use Rattle.std.proofs.lemmas.Bool.{and_parts, and_from, leb-true, le-leb}
 use Rattle.sheet.specs.declared.trial.Trial.{Trial}
 use Rattle.sheet.specs.Layout.{rising}
@@ -46,19 +45,3 @@ mark_within low top (suc i) (t ∷ ts) d lt h =
     let p = and_parts (leb low t.mark) (rising t.mark top ts) h in
     let less : i < length ts = omega arith in
     mark_within t.mark top i ts d less p.1
-
--- the same for the first n of a longer list
-pub marks_kept : (top : ℕ) (ts : List Trial) (n i : ℕ) → i < n → rising 0 top (take n ts) ≡ true → rising 0 top (take i ts) ≡ true
-marks_kept top ts n i lt h = ap (rising 0 top) (sym (take-take i n ts (omega arith))) ∙ rising_take 0 top i (take n ts) h
-
-module _ (top : ℕ) (ts : List Trial) (n i : ℕ) (d : Trial) (lt : i < n) (le : n ≤ length ts) (h : rising 0 top (take n ts) ≡ true) where
-  less : i < length (take n ts)
-  less = omega (arith, length-take-le n ts le)
-
-  pub mark_at : (get_or ts i d).mark ≤ top
-  mark_at = omega (arith, mark_within 0 top i (take n ts) d less h, ap (λ (t : Trial). t.mark) (get_or-take n ts i d lt))
-
-  pub marks_dropped : rising 0 (get_or ts i d).mark (take i ts) ≡ true
-  marks_dropped =
-      ap₂ (λ (t : Trial) l. rising 0 t.mark l) (sym (get_or-take n ts i d lt)) (sym (take-take i n ts (omega arith)))
-      ∙ rising_cut 0 top i (take n ts) d less h

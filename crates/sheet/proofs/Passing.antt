@@ -1,10 +1,10 @@
 -- Refusals in order, and views that differ in their statements and trials only.
-use Rattle.std.proofs.Common.{◌≡◌, ℕ, ◌-◌, ◌<◌, Bool, true, false, ◌&&◌, leb, List, length, get_or, Some, Option, sym, ap, ap₂, arith}
+use Rattle.std.proofs.Common.{◌≡◌, ℕ, ◌<◌, Bool, true, false, ◌&&◌, leb, List, get_or, Some, Option, sym, ap, ap₂, arith}
 use Rattle.std.proofs.lemmas.Bool.{and_parts, leb-true}
 use Rattle.sheet.specs.declared.refusal.Refusal.{Refusal}
 use Rattle.sheet.specs.declared.trial.Trial.{Trial}
 use Rattle.sheet.specs.Statements.{Statement}
-use Rattle.sheet.specs.Views.{View, unless, is_object, trial_place, closed_from, how_many_close, cut_to, no_trial, kept_at, dropped_at, kept, dropped}
+use Rattle.sheet.specs.Views.{View, unless, is_object, trial_place, cut_to, no_trial, dropped_at, dropped}
 
 module _ {b : Bool} (e : Refusal) (next : Option Refusal) where
   pub passes : b ≡ true → unless b e next ≡ next
@@ -29,13 +29,6 @@ some_object v o h =
 pub some_objects : (v : View) (o q : ℕ) → (is_object v o && is_object v q) ≡ true → 0 < v.objects
 some_objects v o q h = some_object v o (and_parts (is_object v o) (is_object v q) h).0
 
--- closing the trial at place i
-module _ (v : View) (n i : ℕ) (e : Some i ≡ trial_place v n) where
-  pub closes : how_many_close v n ≡ length v.trials - i
-  closes = ap (closed_from (length v.trials)) (sym e)
-
-  pub keeps : kept v n ≡ cut_to v i (length v.statements)
-  keeps = ap (kept_at v) (sym e)
-
-  pub drops : dropped v n ≡ cut_to v i (get_or v.trials i no_trial).mark
-  drops = ap (dropped_at v) (sym e)
+-- dropping the trial at place i
+pub drops : (v : View) (n i : ℕ) → Some i ≡ trial_place v n → dropped v n ≡ cut_to v i (get_or v.trials i no_trial).mark
+drops v n i e = ap (dropped_at v) (sym e)

@@ -1,6 +1,6 @@
 -- The forest cut back to a front of the statements, and grown by one more.
 use Rattle.std.proofs.Common.{◌≡◌, ℕ, ◌+◌, ◌*◌, ◌<◌, ◌≤◌, true, eqb, List, [], ◌∷◌, ◌++◌, length, take, sym, ap, ◌∙◌, ap₂, mul-le-mul_left, arith}
-use Rattle.std.proofs.lemmas.List.{length-take-le, map_push, take-map, take-take}
+use Rattle.std.proofs.lemmas.List.{length-take-le, map_push, take-map}
 use Rattle.std.proofs.lemmas.Bool.{and_from, eq-eqb}
 use Rattle.concept.specs.declared.count.Counts.{Counts}
 use Rattle.concept.specs.declared.forest.Forest.{Forest}
@@ -19,9 +19,9 @@ use Rattle.sheet.specs.Statements.{Statement, n_of, v_of, k_of}
 use Rattle.sheet.specs.Statements.Statement.{states}
 use Rattle.sheet.specs.Totals.{totals_of, tally}
 use Rattle.sheet.proofs.Bounding.{some_node, few_valued, counted_right, product_small}
-use Rattle.sheet.proofs.Keeping.{sound_parts, sound_from, totals_right, tally_push, few_nodes, few_valued as few_asked, few_comparisons, few_others, all_nodes, few_stored}
+use Rattle.sheet.proofs.Keeping.{sound_parts, sound_from, totals_right, tally_push, few_valued as few_asked, few_comparisons, few_others, all_nodes, few_stored}
 use Rattle.sheet.proofs.Laying.{total_sum, total_push, total_take, laid_push, laid_take, laid_same, map_same}
-use Rattle.sheet.proofs.Summing.{tally_nodes, front_nodes, front_valued, front_comparisons, front_others}
+use Rattle.sheet.proofs.Summing.{tally_nodes, front_valued, front_comparisons, front_others}
 
 -- cut back to what the first k statements fill
 module _ (f f' : Forest) (m : ℕ) (xs : List Stored) (k : ℕ) (e : sound f m xs ≡ true) (cut : items f' ≡ take (tally (take k xs)).nodes (items f)) where
@@ -55,6 +55,18 @@ module _ (f f' : Forest) (m : ℕ) (xs : List Stored) (k : ℕ) (e : sound f m x
         values = omega (arith, front_comparisons xs k, less, h.values);
       }
 
+-- the same, by the totals that were summed up over what is left
+module _ (f f' : Forest) (m : ℕ) (xs left : List Stored) (k : ℕ) (t : Totals) (e : sound f m xs ≡ true) (front : left ≡ take k xs) (summed : t ≡ tally left)
+    (cut : items f' ≡ take t.nodes (items f)) where
+  cut_there : items f' ≡ take (tally (take k xs)).nodes (items f)
+  cut_there = cut ∙ (ap (λ (a : Totals). take a.nodes (items f)) summed ∙ ap (λ l. take (tally l).nodes (items f)) front)
+
+  pub dropped_shown : in_force f' left ≡ take k (in_force f xs)
+  dropped_shown = ap (in_force f') front ∙ cut_shown f f' m xs k e cut_there
+
+  pub dropped_sound : sound f' m left ≡ true
+  dropped_sound = ap (sound f' m) front ∙ cut_sound f f' m xs k e cut_there
+
 -- grown by the tree of one more
 module _ (f f' : Forest) {root : ℕ} {c : Concept} (m : ℕ) (xs : List Stored) (o : ℕ) (w : Counts) (e : sound f m xs ≡ true) (g : Grown (items f) (items f') root c) where
   kept : (i : ℕ) → i < length (items f) → tree_at (trees (items f')) i ≡ tree_at (trees (items f)) i
@@ -87,28 +99,6 @@ module _ (f f' : Forest) {root : ℕ} {c : Concept} (m : ℕ) (xs : List Stored)
         others = omega (arith, ap (λ (a : Totals). a.others) more, h.others);
         values = rw (v, k) values;
       }
-
--- the same for the first n of a longer list, cut to its first k
-module _ (f : Forest) (m : ℕ) (xs : List Stored) (n k : ℕ) (le : k ≤ n) (e : sound f m (take n xs) ≡ true) where
-  pub front_few : ((tally (take k xs)).nodes ≤ 256) × (((tally (take k xs)).valued ≤ 256) × (((tally (take k xs)).comparisons ≤ 256) × ((tally (take k xs)).others ≤ 64)))
-  front_few =
-      rw (sym (take-take k n xs le)) (
-        omega (arith, front_nodes (take n xs) k, few_nodes f m (take n xs) e),
-        (
-          omega (arith, front_valued (take n xs) k, few_asked f m (take n xs) e),
-          (omega (arith, front_comparisons (take n xs) k, few_comparisons f m (take n xs) e), omega (arith, front_others (take n xs) k, few_others f m (take n xs) e)),
-        ),
-      )
-
-  module _ (f' : Forest) (cut : items f' ≡ take (tally (take k xs)).nodes (items f)) where
-    cut_too : items f' ≡ take (tally (take k (take n xs))).nodes (items f)
-    cut_too = cut ∙ ap (λ l. take (tally l).nodes (items f)) (sym (take-take k n xs le))
-
-    pub dropped_shown : in_force f' (take k xs) ≡ take k (in_force f (take n xs))
-    dropped_shown = ap (in_force f') (sym (take-take k n xs le)) ∙ cut_shown f f' m (take n xs) k e cut_too
-
-    pub dropped_sound : sound f' m (take k xs) ≡ true
-    dropped_sound = ap (sound f' m) (sym (take-take k n xs le)) ∙ cut_sound f f' m (take n xs) k e cut_too
 
 -- room for one more concept, and what is asked for with it
 module _ (f : Forest) (m : ℕ) (xs : List Stored) (c : Concept) (e : sound f m xs ≡ true) where

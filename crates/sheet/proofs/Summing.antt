@@ -1,5 +1,6 @@
 -- The totals that are summed up from the stored counts are those of the statements.
-use Rattle.std.proofs.Common.{◌≡◌, ℕ, ◌+◌, ◌<◌, ◌≤◌, max, true, ◌&&◌, eqb, List, [], ◌∷◌, map, length, get_or, take, fold, sum_by, sym, refl, ap, ◌∙◌, ap₂, arith}
+use Rattle.std.proofs.Common.{◌≡◌, ℕ, ◌+◌, ◌<◌, ◌≤◌, max, true, ◌&&◌, eqb, List, [], ◌∷◌, map, length, get_or, take, fold, sum_by, sym, refl, ap, ◌∙◌, ap₂, subst, arith}
+use Rattle.std.proofs.lemmas.List.Folds.{fold_along}
 use Rattle.std.proofs.lemmas.List.Sums.{fold_more, sum_by-cons, sum_by-take-le}
 use Rattle.std.proofs.lemmas.Bool.{and_parts, eqb-true}
 use Rattle.concept.specs.declared.count.Counts.{Counts}
@@ -11,7 +12,7 @@ use Rattle.sheet.specs.declared.statement.Stored.TheVariants.{Apart, Concept as 
 use Rattle.sheet.specs.declared.totals.Totals.{Totals}
 use Rattle.sheet.specs.Layout.{shown, weighs, length_after, laid_one, laid, total_length}
 use Rattle.sheet.specs.Statements.{Statement, nodes_of, valued_of, comparisons_of, others_of, depth_of, n_of, v_of, k_of, x_of, r_of}
-use Rattle.sheet.specs.Totals.{nothing, weight_of, plus, tally}
+use Rattle.sheet.specs.Totals.{Small, nothing, weight_of, plus, tally}
 use Rattle.sheet.proofs.Bounding.{some_node, few_valued}
 use Rattle.sheet.proofs.Laying.{stored_nodes}
 
@@ -31,46 +32,27 @@ abbrev step : Totals → Stored → Totals
 step t s = plus t (weight_of s)
 
 -- the totals part by part
-run_nodes : (t : Totals) (ss : List Stored) → (fold step t ss).nodes ≡ fold (λ a s. a + stored_nodes s) t.nodes ss
-run_nodes t [] = refl
-run_nodes t (s ∷ ss) = run_nodes (step t s) ss
-
-run_valued : (t : Totals) (ss : List Stored) → (fold step t ss).valued ≡ fold (λ a s. a + stored_valued s) t.valued ss
-run_valued t [] = refl
-run_valued t (s ∷ ss) = run_valued (step t s) ss
-
-run_comparisons : (t : Totals) (ss : List Stored) → (fold step t ss).comparisons ≡ fold (λ a s. a + stored_comparisons s) t.comparisons ss
-run_comparisons t [] = refl
-run_comparisons t (s ∷ ss) = run_comparisons (step t s) ss
-
-run_others : (t : Totals) (ss : List Stored) → (fold step t ss).others ≡ fold (λ a s. a + stored_others s) t.others ss
-run_others t [] = refl
-run_others t (s ∷ ss) = run_others (step t s) ss
-
-run_depth : (t : Totals) (ss : List Stored) → (fold step t ss).depth ≡ fold (λ a s. max a (stored_depth s)) t.depth ss
-run_depth t [] = refl
-run_depth t (s ∷ ss) = run_depth (step t s) ss
-
 module _ (ss : List Stored) where
   pub tally_nodes : (tally ss).nodes ≡ sum_by stored_nodes ss
   unfolding tally
-  tally_nodes = run_nodes nothing ss
+  tally_nodes = fold_along step (λ a s. a + stored_nodes s) (λ (t : Totals) a. t.nodes ≡ a) (λ t a s e. ap (λ k. k + stored_nodes s) e) nothing 0 ss refl
 
   pub tally_valued : (tally ss).valued ≡ sum_by stored_valued ss
   unfolding tally
-  tally_valued = run_valued nothing ss
+  tally_valued = fold_along step (λ a s. a + stored_valued s) (λ (t : Totals) a. t.valued ≡ a) (λ t a s e. ap (λ k. k + stored_valued s) e) nothing 0 ss refl
 
   pub tally_comparisons : (tally ss).comparisons ≡ sum_by stored_comparisons ss
   unfolding tally
-  tally_comparisons = run_comparisons nothing ss
+  tally_comparisons =
+      fold_along step (λ a s. a + stored_comparisons s) (λ (t : Totals) a. t.comparisons ≡ a) (λ t a s e. ap (λ k. k + stored_comparisons s) e) nothing 0 ss refl
 
   pub tally_others : (tally ss).others ≡ sum_by stored_others ss
   unfolding tally
-  tally_others = run_others nothing ss
+  tally_others = fold_along step (λ a s. a + stored_others s) (λ (t : Totals) a. t.others ≡ a) (λ t a s e. ap (λ k. k + stored_others s) e) nothing 0 ss refl
 
   pub tally_depth : (tally ss).depth ≡ fold (λ a s. max a (stored_depth s)) 0 ss
   unfolding tally
-  tally_depth = run_depth nothing ss
+  tally_depth = fold_along step (λ a s. max a (stored_depth s)) (λ (t : Totals) a. t.depth ≡ a) (λ t a s e. ap (λ k. max k (stored_depth s)) e) nothing 0 ss refl
 
   -- one statement more
   pub tally_more : (i : ℕ) (d : Stored) → i < length ss → tally (take (i + 1) ss) ≡ plus (tally (take i ss)) (weight_of (get_or ss i d))
@@ -95,22 +77,21 @@ module _ (ss : List Stored) (i : ℕ) where
   pub front_others : (tally (take i ss)).others ≤ (tally ss).others
   front_others = omega (arith, tally_others ss, tally_others (take i ss), sum_by-take-le stored_others ss i)
 
+  pub front_small : Small (tally ss) → Small (tally (take i ss))
+  front_small h =
+      let nodes = h.0 in
+      let valued = h.1.0 in
+      let comparisons = h.1.1.0 in
+      let others = h.1.1.1 in
+      (omega (arith, front_nodes), (omega (arith, front_valued), (omega (arith, front_comparisons), omega (arith, front_others))))
+
 -- adding up the totals of a list
 module _ (ss : List Stored) (i : ℕ) {t w : Totals} (d : Stored) (lt : i < length ss) (e : t ≡ tally (take i ss)) (one : w ≡ weight_of (get_or ss i d)) where
   pub adds : plus t w ≡ tally (take (i + 1) ss)
   adds = ap₂ plus e one ∙ sym (tally_more ss i d lt)
 
-  pub adds_nodes : t.nodes + w.nodes ≤ (tally ss).nodes
-  adds_nodes = omega (arith, ap (λ (a : Totals). a.nodes) adds, front_nodes ss (i + 1))
-
-  pub adds_valued : t.valued + w.valued ≤ (tally ss).valued
-  adds_valued = omega (arith, ap (λ (a : Totals). a.valued) adds, front_valued ss (i + 1))
-
-  pub adds_comparisons : t.comparisons + w.comparisons ≤ (tally ss).comparisons
-  adds_comparisons = omega (arith, ap (λ (a : Totals). a.comparisons) adds, front_comparisons ss (i + 1))
-
-  pub adds_others : t.others + w.others ≤ (tally ss).others
-  adds_others = omega (arith, ap (λ (a : Totals). a.others) adds, front_others ss (i + 1))
+  pub adds_small : Small (tally ss) → Small (plus t w)
+  adds_small h = subst Small (sym adds) (front_small ss (i + 1) h)
 
 -- over the forest
 module _ (ts : List Concept) where

@@ -1,5 +1,5 @@
 -- What a sheet's fields hold.
-use Rattle.std.specs.Prelude.{◌≡◌, cond, [], take, Some, None, Ok, Err, Option, Result, ◌==◌}
+use Rattle.std.specs.Prelude.{◌≡◌, cond, [], Some, None, Ok, Err, Option, Result, ◌==◌}
 use Rattle.sheet.specs.declared.refusal.Refusal.{Refusal}
 use Rattle.sheet.specs.declared.sheet.Sheet.{Sheet}
 use Rattle.sheet.specs.Layout.{in_force}
@@ -9,8 +9,8 @@ abbrev pub view : {D : Type 0} → Sheet D → View
 view s = record {
   objects = s.objects;
   kinds = cond (s.objects == 0) [] s.kinds;
-  statements = in_force s.forest (take s.count s.statements);
-  trials = take s.nesting s.trials;
+  statements = in_force s.forest s.statements.items;
+  trials = s.trials.items;
   opened = s.opened;
 }
 

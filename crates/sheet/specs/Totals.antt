@@ -1,5 +1,5 @@
 -- What is counted of stored statements.
-use Rattle.std.specs.Prelude.{◌+◌, max, List, fold}
+use Rattle.std.specs.Prelude.{◌+◌, ◌≤◌, max, List, fold}
 use Rattle.sheet.specs.declared.statement.Stored.{Stored}
 use Rattle.sheet.specs.declared.statement.Stored.TheVariants.{Apart, Concept as Stated, Link, Compare}
 use Rattle.sheet.specs.declared.totals.Totals.{Totals}
@@ -27,6 +27,10 @@ plus t w = record {
   others = t.others + w.others;
   depth = max t.depth w.depth;
 }
+
+-- no sum of what is counted runs over; the depth is no sum
+abbrev pub Small : Totals → Type 0
+Small t = (t.nodes ≤ 512) × ((t.valued ≤ 512) × ((t.comparisons ≤ 512) × (t.others ≤ 512)))
 
 -- the totals of stored statements, by the counts that are stored with them
 unfoldable pub tally : List Stored → Totals

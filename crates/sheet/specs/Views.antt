@@ -1,5 +1,6 @@
 -- What a sheet holds, and what each call makes of it.
-use Rattle.std.specs.Prelude.{ℕ, ◌+◌, ◌-◌, ◌*◌, Bool, true, false, not, ◌&&◌, List, [], ◌∷◌, ◌++◌, length, take, ℤ, Some, None, Option, ◌==◌, nat_le, nat_lt, slice_index_or}
+use Rattle.std.specs.Prelude.{ℕ, ◌+◌, ◌-◌, ◌*◌, Bool, true, false, ◌&&◌, List, [], ◌∷◌, ◌++◌, length, take, ℤ, Some, None, Option, ◌==◌, nat_le, nat_lt, slice_index_or}
+use Rattle.std.specs.List.{position}
 use Rattle.domain.specs.declared.predicate.Predicate.{Predicate}
 use Rattle.domain.specs.Meaning.{Meaning}
 use Rattle.domain.specs.Solving.{first_failing}
@@ -50,11 +51,11 @@ abbrev pub at_kinds : Option ℕ → Option Refusal
 at_kinds None = None
 at_kinds (Some i) = Some (Kinds i)
 
-abbrev pub set_up_refusal : Meaning → View → ℕ → List ℕ → Option Refusal
+unfoldable pub set_up_refusal : Meaning → View → ℕ → List ℕ → Option Refusal
 set_up_refusal m v objects kinds =
     unless (v.objects == 0) SetUpBefore
     (unless (nat_le 1 objects && nat_le objects 16) Objects
-    (unless (length kinds == 128) (Kinds 128) (at_kinds (first_failing m.knows 0 kinds))))
+    (unless (length kinds == 128) (Kinds 128) (at_kinds (first_failing m.knows kinds))))
 
 abbrev pub set_up : View → ℕ → List ℕ → View
 set_up v objects kinds = record {
@@ -119,7 +120,7 @@ with_trial v = record {
 
 -- the place of the trial of this number among the open ones
 abbrev pub trial_place : View → ℕ → Option ℕ
-trial_place v n = first_failing (λ t. not (t.number == n)) 0 v.trials
+trial_place v n = position (λ t. t.number == n) v.trials
 
 -- closing: the trial of this number and all opened after it, none where it is not open
 abbrev pub closed_from : ℕ → Option ℕ → ℕ

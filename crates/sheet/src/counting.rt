@@ -1,26 +1,15 @@
 // Counting statements.
-ghost use Rattle.std.specs.Prelude.{◌≡◌, ℕ, ◌+◌, ◌≤◌};
+ghost use Rattle.std.specs.Prelude.{◌≡◌, ℕ, ◌+◌, ◌*◌, ◌≤◌};
 ghost use Rattle.sheet.specs.Showing.{view};
-ghost use Rattle.sheet.specs.Totals.{nothing, plus, tally, totals_of, weight_of};
+ghost use Rattle.sheet.specs.Totals.{Small, plus, tally, totals_of, weight_of};
 
 use crate::sheet::Sheet;
 use crate::statement::Stored;
 use crate::totals::Totals;
 
 impl Totals {
-    const NONE: Totals = Totals {
-        nodes: 0,
-        valued: 0,
-        comparisons: 0,
-        others: 0,
-        depth: 0,
-    };
-
     fn add(self, more: Totals) -> Totals
-        requires nodes { self.nodes + more.nodes ≤ 512 }
-        requires valued { self.valued + more.valued ≤ 512 }
-        requires comparisons { self.comparisons + more.comparisons ≤ 512 }
-        requires others { self.others + more.others ≤ 512 }
+        requires { Small (plus self more) }
         ensures { result ≡ plus self more }
     {
         Totals {
@@ -41,35 +30,26 @@ fn weight(statement: Stored) -> Totals
         Stored::Concept(_, _, counts) => Totals {
             nodes: counts.nodes,
             valued: counts.valued,
-            comparisons: 0,
-            others: 0,
             depth: counts.depth,
+            ..Totals::default()
         },
         Stored::Apart(_, _) | Stored::Link(_, _, _) => Totals {
-            nodes: 0,
-            valued: 0,
-            comparisons: 0,
             others: 1,
-            depth: 0,
+            ..Totals::default()
         },
         Stored::Compare(_, _, _) => Totals {
-            nodes: 0,
-            valued: 0,
             comparisons: 1,
             others: 1,
-            depth: 0,
+            ..Totals::default()
         },
     }
 }
 
 pub(crate) fn sum_up(statements: &[Stored]) -> Totals
-    requires nodes { (tally statements.now).nodes ≤ 512 }
-    requires valued { (tally statements.now).valued ≤ 512 }
-    requires comparisons { (tally statements.now).comparisons ≤ 512 }
-    requires others { (tally statements.now).others ≤ 512 }
+    requires { Small (tally statements.now) }
     ensures { result ≡ tally statements.now }
 {
-    let mut totals = Totals::NONE;
+    let mut totals = Totals::default();
     for statement in statements {
         totals = totals.add(weight(*statement));
     }
@@ -77,10 +57,11 @@ pub(crate) fn sum_up(statements: &[Stored]) -> Totals
 }
 
 impl<D> Sheet<D> {
-    // N, V, K, X and R of what is in force.
+    // N, V, K, X and R of what is in force. K, and V for each object, are together at most 256.
     pub fn totals(&self) -> Totals
-        ensures { result ≡ totals_of (view self.now).statements }
+        ensures counted { result ≡ totals_of (view self.now).statements }
+        ensures within { result.comparisons + (view self.now).objects * result.valued ≤ 256 }
     {
-        sum_up(&self.statements[0..self.count])
+        sum_up(self.statements.as_slice())
     }
 }

@@ -5,20 +5,14 @@ ghost use Rattle.sheet.specs.Statements.{v_of, k_of, x_of, others_of, comparison
 ghost use Rattle.sheet.specs.Statements.Statement.{links, apart};
 ghost use Rattle.sheet.specs.Views.{apart_refusal, is_object, link_refusal, with_statement};
 ghost use Rattle.sheet.specs.Showing.{view, Acts};
-ghost use Rattle.concept.specs.Concepts.{is_relation};
 
 use crate::refusal::Refusal;
 use crate::sheet::Sheet;
 use crate::statement::Stored;
+use concept::features::is_relation;
 
 // This many statements may be no concepts.
 pub const MOST_OTHERS: u32 = 64;
-
-fn is_relation(relation: u32) -> bool
-    ensures { result ≡ is_relation relation }
-{
-    matches!(relation, 1..=127 | 256..=511)
-}
 
 impl<D> Sheet<D> {
     // Whether both are objects of this sheet.
@@ -37,8 +31,7 @@ impl<D> Sheet<D> {
         ensures added { view self.new ≡ with_statement (view self.old) (shown [] statement) }
         ensures lasting { self.new.domain ≡ self.old.domain }
     {
-        self.statements[self.count] = statement;
-        self.count += 1;
+        self.statements.push(statement);
     }
 
     // States that two objects stand for different things.

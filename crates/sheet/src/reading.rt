@@ -1,5 +1,5 @@
 // Reading a sheet.
-ghost use Rattle.std.specs.Prelude.{◌≡◌, length, take};
+ghost use Rattle.std.specs.Prelude.{◌≡◌, length};
 ghost use Rattle.std.specs.List.{slice_get};
 ghost use Rattle.sheet.specs.Views.{is_object};
 ghost use Rattle.sheet.specs.Showing.{view};
@@ -26,17 +26,13 @@ impl<D> Sheet<D> {
     pub fn len(&self) -> usize
         ensures { result ≡ length (view self.now).statements }
     {
-        self.count
+        self.statements.len()
     }
 
     // The statement at a place, oldest first, as it is stored.
     pub fn get(&self, place: usize) -> Option<Stored>
-        ensures { result ≡ slice_get (take self.now.count self.now.statements) place }
+        ensures { result ≡ slice_get self.now.statements.items place }
     {
-        if place < self.count {
-            Some(self.statements[place])
-        } else {
-            None
-        }
+        self.statements.as_slice().get(place).copied()
     }
 }

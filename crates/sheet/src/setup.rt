@@ -20,18 +20,14 @@ fn is_known<D: Domain>(domain: &D, kind: u32) -> bool
 }
 
 fn first_unknown<D: Domain>(domain: &D, kinds: &[u32]) -> Option<usize>
-    ensures { result ≡ first_failing (D.meaning domain.now).knows 0 kinds.now }
+    ensures { result ≡ first_failing (D.meaning domain.now).knows kinds.now }
 {
-    for (i, kind) in kinds.iter().enumerate() {
-        if !is_known(domain, *kind) {
-            return Some(i);
-        }
-    }
-    None
+    kinds.iter().position(|kind| !is_known(domain, *kind))
 }
 
 impl<D: Domain> Sheet<D> {
     // Fixes how many objects there are, and the kinds of the value features from 128 on.
+    #[tactic(auto, unfolding(crate::specs::Views::set_up_refusal))]
     pub fn set_up(&mut self, objects: u32, kinds: &[u32]) -> Result<(), Refusal>
         ensures { Acts self.old self.new (set_up_refusal (D.meaning self.old.domain) (view self.old) objects kinds.now) (set_up (view self.old) objects kinds.now) result }
     {

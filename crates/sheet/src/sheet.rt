@@ -1,28 +1,32 @@
 // The sheet.
-ghost use Rattle.std.specs.Prelude.{◌≡◌, ℕ, ◌*◌, ◌≤◌, true, length, take};
+ghost use Rattle.std.specs.Prelude.{◌≡◌, ℕ, ◌*◌, ◌≤◌, true};
+ghost use Rattle.arrayvec.specs.ArrayVec.{array_vec_len};
 ghost use Rattle.sheet.specs.Layout.{sound, rising};
 
 use crate::statement::Stored;
 use crate::trial::Trial;
+use crate::trials::MOST_OPEN;
+use arrayvec::ArrayVec;
 use concept::forest::Forest;
 
 // A sheet (an ABox with a history of trials): what a technician has written down of a plant.
 #[derive(Drop)]
 pub struct Sheet<D> {
     pub(crate) domain: D,
-    // M, 0 until setting up
+    // M; 0 until setting up, which by itself rules every object out: with an Option each call would have to ask first
     pub(crate) objects: u32,
     // the kinds of the value features 128 to 255, once set up
     pub(crate) kinds: [u32; 128],
     pub(crate) forest: Forest,
-    pub(crate) statements: [Stored; 320],
-    pub(crate) count: usize,
-    pub(crate) trials: [Trial; 8],
-    pub(crate) nesting: usize,
+    // those in force, oldest first: each concept has one of the 256 nodes, and 64 are no concepts
+    pub(crate) statements: ArrayVec<Stored, 320>,
+    // the open ones, oldest first
+    pub(crate) trials: ArrayVec<Trial, MOST_OPEN>,
     pub(crate) opened: u32,
+    ghost few_objects: { objects ≤ 16 },
+    ghost few_opened: { opened ≤ 65535 },
     // nothing is stated before setting up
-    ghost bounded: { (objects ≤ 16) × ((count ≤ 320) × ((count ≤ 320 * objects) × ((nesting ≤ 8) × (opened ≤ 65535)))) },
-    ghost held: { sound forest objects (take count statements) ≡ true },
-    ghost marked: { rising 0 count (take nesting trials) ≡ true },
-    ghost sized: { (length statements ≡ 320) × (length trials ≡ 8) },
+    ghost ready: { array_vec_len statements ≤ 320 * objects },
+    ghost held: { sound forest objects statements.items ≡ true },
+    ghost marked: { rising 0 (array_vec_len statements) trials.items ≡ true },
 }

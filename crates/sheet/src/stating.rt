@@ -33,8 +33,7 @@ impl<D: Domain> Sheet<D> {
         }
         let (forest, root) = grown;
         self.forest = forest;
-        self.statements[self.count] = Stored::Concept(object, root, counts);
-        self.count += 1;
+        self.statements.push(Stored::Concept(object, root, counts));
         Ok(())
     }
 }

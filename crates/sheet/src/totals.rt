@@ -2,7 +2,7 @@
 
 // The totals of statements: N normal nodes, V those of them that ask for a feature or a value, K comparisons, X statements that
 // are no concepts, and R, the most role nodes on one path.
-#[derive(Clone, Copy, PartialEq, Eq, Debug)]
+#[derive(Clone, Copy, PartialEq, Eq, Debug, Default)]
 pub struct Totals {
     pub nodes: u32,
     pub valued: u32,

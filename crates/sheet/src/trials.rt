@@ -1,33 +1,20 @@
 // Making a sheet, and its trials.
-ghost use Rattle.std.specs.Prelude.{◌≡◌, ℕ, ◌<◌, not, length, IfSome, IfOk, ◌==◌};
-ghost use Rattle.domain.specs.Solving.{first_failing};
+ghost use Rattle.std.specs.Prelude.{◌≡◌, ℕ, ◌<◌, IfSome, IfOk};
+ghost use Rattle.arrayvec.specs.ArrayVec.{array_vec_len};
 ghost use Rattle.sheet.specs.Views.{dropped, how_many_close, kept, new_view, open_refusal, trial_place, with_trial};
 ghost use Rattle.sheet.specs.Showing.{view, Acts};
 
 use crate::counting::sum_up;
 use crate::refusal::Refusal;
 use crate::sheet::Sheet;
-use crate::statement::Stored;
 use crate::trial::{Token, Trial};
+use arrayvec::ArrayVec;
 use concept::forest::Forest;
 use domain::Domain;
 
 pub const MOST_OPEN: usize = 8;
 
 pub const MOST_OPENED: u32 = 65_535;
-
-// The place of the first of these trials that has the number.
-fn find_trial(trials: &[Trial], number: u32) -> Option<usize>
-    ensures first { result ≡ first_failing (λ t. not (t.number == number)) 0 trials.now }
-    ensures within { IfSome result (λ i. i < length trials.now) }
-{
-    for (i, trial) in trials.iter().enumerate() {
-        if trial.number == number {
-            return Some(i);
-        }
-    }
-    None
-}
 
 impl<D: Domain> Sheet<D> {
     // An empty sheet over a domain, which it holds from now on.
@@ -39,10 +26,8 @@ impl<D: Domain> Sheet<D> {
             objects: 0,
             kinds: [0; 128],
             forest: Forest::new(),
-            statements: [Stored::Apart(0, 0); 320],
-            count: 0,
-            trials: [Trial { number: 0, mark: 0 }; 8],
-            nesting: 0,
+            statements: ArrayVec::new(),
+            trials: ArrayVec::new(),
             opened: 0,
         }
     }
@@ -54,15 +39,14 @@ impl<D> Sheet<D> {
         ensures acts { Acts self.old self.new (open_refusal (view self.old)) (with_trial (view self.old)) result }
         ensures number { IfOk result (λ t. t.number ≡ self.new.opened) }
     {
-        if self.nesting >= MOST_OPEN || self.opened >= MOST_OPENED {
+        if self.trials.is_full() || self.opened >= MOST_OPENED {
             return Err(Refusal::Trials);
         }
         let number = self.opened + 1;
-        self.trials[self.nesting] = Trial {
+        self.trials.push(Trial {
             number,
-            mark: self.count,
-        };
-        self.nesting += 1;
+            mark: self.statements.len(),
+        });
         self.opened = number;
         Ok(Token { number })
     }
@@ -70,9 +54,9 @@ impl<D> Sheet<D> {
     // The place of the trial of this number among the open ones.
     fn place_of(&self, number: u32) -> Option<usize>
         ensures first { result ≡ trial_place (view self.now) number }
-        ensures within { IfSome result (λ i. i < self.now.nesting) }
+        ensures within { IfSome result (λ i. i < array_vec_len self.now.trials) }
     {
-        find_trial(&self.trials[0..self.nesting], number)
+        self.trials.iter().position(|trial| trial.number == number)
     }
 
     // Closes the trial and all opened after it, and says how many closed. What was stated inside remains.
@@ -85,8 +69,8 @@ impl<D> Sheet<D> {
         match self.place_of(number) {
             None => 0,
             Some(place) => {
-                let closed = self.nesting - place;
-                self.nesting = place;
+                let closed = self.trials.len() - place;
+                self.trials.truncate(place);
                 closed
             }
         }
@@ -102,12 +86,12 @@ impl<D> Sheet<D> {
         let Some(place) = self.place_of(number) else {
             return 0;
         };
-        let closed = self.nesting - place;
+        let closed = self.trials.len() - place;
         let mark = self.trials[place].mark;
-        let filled = sum_up(&self.statements[0..mark]).nodes as usize;
+        self.trials.truncate(place);
+        self.statements.truncate(mark);
+        let filled = sum_up(self.statements.as_slice()).nodes as usize;
         self.forest = self.forest.cut(filled);
-        self.count = mark;
-        self.nesting = place;
         closed
     }
 }

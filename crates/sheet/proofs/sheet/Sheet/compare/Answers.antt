@@ -1,21 +1,12 @@
-use Rattle.std.proofs.Common.{take, rules}
-use Rattle.sheet.proofs.Keeping.{values_small}
+use Rattle.std.proofs.Common.{◌≡◌, rules}
+use Rattle.sheet.specs.Showing.{view}
+use Rattle.sheet.proofs.Accepting.{kinds_set}
+use Rattle.sheet.proofs.Passing.{some_objects}
 use Rattle.sheet.proofs.sheet.Sheet.compare.Goals as goal
 
-pub overflow_add-totals : goal.overflow_add-totals
-overflow_add-totals g c =
+pub returns : goal.returns
+returns g c =
     let s = c.args.self.now in
-    let small = values_small s.forest s.objects (take s.count s.statements) c.totals-totals.result s.held c.totals-totals.ensures in
-    search rules
-
-pub overflow_mul-self : goal.overflow_mul-self
-overflow_mul-self g c =
-    let s = c.args.self.now in
-    let small = values_small s.forest s.objects (take s.count s.statements) c.totals-totals.result s.held c.totals-totals.ensures in
-    search rules
-
-pub overflow_add-totals-2 : goal.overflow_add-totals-2
-overflow_add-totals-2 g c =
-    let s = c.args.self.now in
-    let small = values_small s.forest s.objects (take s.count s.statements) c.totals-totals.result s.held c.totals-totals.ensures in
+    let here = some_objects (view s) c.args.left.object c.args.right.object (search rules) in
+    let ks : (view s).kinds ≡ s.kinds = kinds_set s.objects s.kinds here in
     search rules

@@ -1,4 +1,5 @@
-use Rattle.std.proofs.Common.{[], length, refl, ap, arith, rules}
+use Rattle.std.proofs.Common.{length, refl, ap, ◌∙◌, ap₂, arith}
+use Rattle.sheet.specs.Layout.{in_force, rising, sound}
 use Rattle.sheet.specs.Views.{new_view}
 use Rattle.sheet.proofs.Keeping.{none_in_force, none_sound}
 use Rattle.sheet.proofs.Passing.{put}
@@ -7,11 +8,13 @@ use Rattle.sheet.proofs.sheet.Sheet.new.Goals as goal
 pub invariant_of-result : goal.invariant_of-result
 invariant_of-result g c =
     record {
-      bounded = (omega arith, (omega arith, (omega arith, (omega arith, omega arith))));
-      held = none_sound c.new.result 0 (ap length c.new.ensures);
-      marked = refl;
-      sized = (search rules, refl);
+      few_objects = omega arith;
+      few_opened = omega arith;
+      ready = omega (arith, ap length c.new-2.ensures);
+      held = ap (sound c.new.result 0) c.new-2.ensures ∙ none_sound c.new.result 0 (ap length c.new.ensures);
+      marked = ap₂ (rising 0) (ap length c.new-2.ensures) c.new-3.ensures;
     }
 
 pub returns : goal.returns
-returns g c = (ap (λ ss. put new_view ss [] 0) (none_in_force c.new.result), refl)
+returns g c =
+    (ap₂ (λ ss ts. put new_view ss ts 0) (ap (in_force c.new.result) c.new-2.ensures ∙ none_in_force c.new.result) c.new-3.ensures, refl)

@@ -1,40 +1,26 @@
-use Rattle.std.proofs.Common.{◌≡◌, ◌+◌, length, take, None, refl, ◌∙◌, arith}
-use Rattle.std.proofs.lemmas.List.{length-set, length-take-le, take_more_set}
-use Rattle.std.proofs.lemmas.Bool.{and_from, lt-ltb}
-use Rattle.sheet.specs.declared.refusal.Refusal.TheVariants.{Trials}
+use Rattle.std.proofs.Common.{◌≡◌, ◌+◌, [], ◌∷◌, ◌++◌, length, ap, ◌∙◌, arith, rules}
+use Rattle.sheet.specs.Layout.{rising}
 use Rattle.sheet.specs.Showing.{view}
 use Rattle.sheet.proofs.Keeping.{length_in_force}
 use Rattle.sheet.proofs.Marking.{rising_push}
-use Rattle.sheet.proofs.Passing.{passes, same_view}
 use Rattle.sheet.proofs.sheet.Sheet.open_trial.Goals as goal
 
-pub invariant_of-self : goal.invariant_of-self
-invariant_of-self g c =
+pub invariant_of-self-2 : goal.invariant_of-self-2
+invariant_of-self-2 g c =
     let s = c.args.self.now in
-    let n = s.sized.1 in
+    let n = length s.statements.items in
     record {
-      bounded = (s.bounded.0, (s.bounded.1.0, (s.bounded.1.1.0, (omega arith, omega arith))));
+      few_objects = s.few_objects;
+      few_opened = omega arith;
+      ready = s.ready;
       held = s.held;
-      marked = rw (take_more_set s.trials s.nesting (record { number = s.opened + 1; mark = s.count }) (omega arith))
-          (rising_push 0 s.count (s.opened + 1) (take s.nesting s.trials) s.marked);
-      sized = (s.sized.0, length-set s.trials s.nesting (record { number = s.opened + 1; mark = s.count }) ∙ s.sized.1);
+      marked =
+          ap (rising 0 n) (c.push.ensures.items ∙ ap (λ k. s.trials.items ++ (record { number = s.opened + 1; mark = k } ∷ [])) c.len.ensures.value)
+          ∙ rising_push 0 n (s.opened + 1) s.trials.items s.marked;
     }
 
-pub returns : goal.returns
-returns g c =
+pub returns-clause-acts : goal.returns-clause-acts
+returns-clause-acts g c =
     let s = c.args.self.now in
-    let n = s.sized.1 in
-    let m = s.sized.0 in
-    let t : length (take s.nesting s.trials) ≡ s.nesting = length-take-le s.nesting s.trials (omega arith) in
-    let k : length (view s).statements ≡ s.count = length_in_force s.forest (take s.count s.statements) ∙ length-take-le s.count s.statements (omega arith) in
-    record {
-      acts = (
-        passes Trials None (and_from _ _ (lt-ltb (length (take s.nesting s.trials)) 8 (omega arith)) (lt-ltb s.opened 65535 (omega arith))),
-        (
-          same_view (view s) (s.opened + 1) refl
-              (take_more_set s.trials s.nesting (record { number = s.opened + 1; mark = s.count }) (omega arith) ∙ rw k refl),
-          refl,
-        ),
-      );
-      number = refl;
-    }
+    let long : length (view s).statements ≡ length s.statements.items = length_in_force s.forest s.statements.items in
+    search rules

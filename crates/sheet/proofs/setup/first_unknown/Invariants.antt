@@ -1,7 +1,0 @@
--- What is left of the list decides the answer.
-use Rattle.std.proofs.Common.{◌≡◌, drop}
-use Rattle.domain.specs.Solving.{first_failing}
-use Rattle.sheet.proofs.setup.first_unknown.Given as goal
-
-abbrev pub invariant-loop-i : goal.invariant-loop-i
-invariant-loop-i g l = first_failing (g.D.Domain.meaning l.domain).knows 0 l.kinds ≡ first_failing (g.D.Domain.meaning l.domain).knows l.i (drop l.i l.kinds)
