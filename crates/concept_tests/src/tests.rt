@@ -18,11 +18,10 @@ fn counts_of(table: &[Node]) -> Result<(Counts, Counts), TableFault> {
     Ok((checked.count(Sign::Plain), checked.count(Sign::Negated)))
 }
 
-fn refusal_of(table: &[Node]) -> (u32, usize) {
-    match counts_of(table) {
-        Ok(_) => (0, 0),
-        Err(fault) => (fault.number(), fault.place()),
-    }
+// The number and the place of a table's refusal, if it is refused.
+fn refusal_of(table: &[Node]) -> Option<(u32, usize)> {
+    let fault = counts_of(table).err()?;
+    Some((fault.number(), fault.place()))
 }
 
 fn counts(nodes: u32, valued: u32, depth: u32) -> Counts {
@@ -84,7 +83,7 @@ fn broken_nodes(rt: HostRuntime) {
         chains(11, link, chain(0, 0, 1)),
     ];
     for node in broken {
-        assert_eq!(rt; refusal_of(&[name(1), node]), (6, 1));
+        assert_eq!(rt; refusal_of(&[name(1), node]), Some((6, 1)));
     }
 }
 
@@ -124,16 +123,16 @@ fn unfit_predicates(rt: HostRuntime) {
 fn first_refusal(rt: HostRuntime) -> Result<(), Fail> {
     let unfit = holds(chain(128, 0, 0), chain(0, 0, 0), 9, 0);
     let both = holds(chain(1, 0, 0), chain(0, 0, 0), 9, 0);
-    assert_eq!(rt; refusal_of(&[]), (5, 0));
-    assert_eq!(rt; refusal_of(&[name(0)]), (6, 0));
-    assert_eq!(rt; refusal_of(&[not(0)]), (6, 0));
-    assert_eq!(rt; refusal_of(&[unfit, name(0)]), (7, 0));
-    assert_eq!(rt; refusal_of(&[name(1), name(0), unfit]), (6, 1));
-    assert_eq!(rt; refusal_of(&[both, name(1)]), (6, 0));
+    assert_eq!(rt; refusal_of(&[]), Some((5, 0)));
+    assert_eq!(rt; refusal_of(&[name(0)]), Some((6, 0)));
+    assert_eq!(rt; refusal_of(&[not(0)]), Some((6, 0)));
+    assert_eq!(rt; refusal_of(&[unfit, name(0)]), Some((7, 0)));
+    assert_eq!(rt; refusal_of(&[name(1), name(0), unfit]), Some((6, 1)));
+    assert_eq!(rt; refusal_of(&[both, name(1)]), Some((6, 0)));
     let longest = tower(rt.alloc(), name(0), 3, 65)?;
-    assert_eq!(rt; refusal_of(longest.as_slice()), (5, 0));
+    assert_eq!(rt; refusal_of(longest.as_slice()), Some((5, 0)));
     let long = tower(rt.alloc(), name(0), 3, 64)?;
-    assert_eq!(rt; refusal_of(long.as_slice()), (6, 0));
+    assert_eq!(rt; refusal_of(long.as_slice()), Some((6, 0)));
     Ok(())
 }
 

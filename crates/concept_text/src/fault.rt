@@ -19,7 +19,7 @@ pub enum Expected {
 // Where the reading of a line stopped.
 pub type Stop = text::Stop<Expected>;
 
-// Why a line adds nothing.
+// Why a line cannot be read to its end. What it said before that may have been added.
 pub type Halt = text::Trouble<Stop>;
 
 // Where a text cannot be read on.

@@ -31,6 +31,20 @@ impl<'a> Reader<'a> {
         Ok((from, self.thing(count)?))
     }
 
+    // The value of a feature at a thing.
+    fn reading(&mut self, feature: u32, count: u32) -> Result<Reading, Stop>
+        ensures { length self.new.rest.now ≤ length self.old.rest.now }
+    {
+        let thing = self.thing(count)?;
+        self.sign(b'=')?;
+        let value = self.constant(-32_768, 32_767)?;
+        Ok(Reading {
+            feature,
+            thing,
+            value,
+        })
+    }
+
     // A number and a colon.
     fn heading(&mut self, low: u32, high: u32) -> Result<u32, Stop>
         ensures value { IfOk result (λ n. n ≡ number self.old.rest.now) }
@@ -51,78 +65,27 @@ fn put<T: Drop>(list: &mut Vec<T>, item: T) -> Result<(), AllocError>
     Ok(())
 }
 
-// Adds entries up to the end of the line, separated by commas.
-fn entries<T: Drop, F: Fn(&mut Reader<'_>) -> Result<T, Stop>>(
+// Takes a number and a colon, and adds the entries after them, up to the end of the line, separated by commas.
+fn entries<T: Drop, F: Fn(&mut Reader<'_>, u32) -> Result<T, Stop>>(
     line: &mut Reader<'_>,
     list: &mut Vec<T>,
+    low: u32,
+    high: u32,
     entry: F,
 ) -> Result<(), Halt>
     requires callable { F.IsAlwaysCallable entry }
-    requires forward { (r : _) (o : _) (r' : _) → F.post entry r o r' → length r'.now.rest.now ≤ length r.now.rest.now }
+    requires forward { (r : _) (n : _) (o : _) (r' : _) → F.post entry r n o r' → length r'.now.rest.now ≤ length r.now.rest.now }
     ensures { Extends list.old.items list.new.items }
 {
+    let number = line.heading(low, high)?;
     if line.is_done() {
         return Ok(());
     }
-    put(list, entry(line)?)?;
+    put(list, entry(line, number)?)?;
     while line.takes(b',') {
-        put(list, entry(line)?)?;
+        put(list, entry(line, number)?)?;
     }
     Ok(())
-}
-
-// Adds the names of things.
-fn names(plant: &mut FinitePlant, line: &mut Reader<'_>) -> Result<(), Halt>
-    ensures { plant.new.count ≡ plant.old.count }
-{
-    let name = line.heading(1, 255)?;
-    let count = plant.count;
-    entries(line, &mut plant.names, |line| {
-        let thing = line.thing(count)?;
-        Ok(Named { name, thing })
-    })
-}
-
-// Adds the links of a feature.
-fn links(plant: &mut FinitePlant, line: &mut Reader<'_>) -> Result<(), Halt>
-    ensures { plant.new.count ≡ plant.old.count }
-{
-    let feature = line.heading(1, 127)?;
-    let count = plant.count;
-    entries(line, &mut plant.links, |line| {
-        let (from, to) = line.arrow(count)?;
-        Ok(Link { feature, from, to })
-    })
-}
-
-// Adds the values of a feature.
-fn readings(plant: &mut FinitePlant, line: &mut Reader<'_>) -> Result<(), Halt>
-    ensures { plant.new.count ≡ plant.old.count }
-{
-    let feature = line.heading(128, 255)?;
-    let count = plant.count;
-    entries(line, &mut plant.readings, |line| {
-        let thing = line.thing(count)?;
-        line.sign(b'=')?;
-        let value = line.constant(-32_768, 32_767)?;
-        Ok(Reading {
-            feature,
-            thing,
-            value,
-        })
-    })
-}
-
-// Adds the pairs of a role.
-fn pairs(plant: &mut FinitePlant, line: &mut Reader<'_>) -> Result<(), Halt>
-    ensures { plant.new.count ≡ plant.old.count }
-{
-    let role = line.heading(256, 511)?;
-    let count = plant.count;
-    entries(line, &mut plant.pairs, |line| {
-        let (from, to) = line.arrow(count)?;
-        Ok(Pair { role, from, to })
-    })
 }
 
 // Adds the node of a line that begins with its place.
@@ -136,6 +99,36 @@ fn place(sheet: &mut Sheet, line: &mut Reader<'_>) -> Result<(), Halt>
     Ok(())
 }
 
+// Adds what a line that begins with a word says of the plant.
+fn describe(plant: &mut FinitePlant, line: &mut Reader<'_>) -> Result<(), Halt>
+    ensures { plant.old.count ≤ 64 → plant.new.count ≤ 64 }
+{
+    let stop = line.stop(Expected::Start);
+    let count = plant.count;
+    match line.take(Class::Letter) {
+        b"plant" => {
+            plant.count = line.number(1, MOST_THINGS as u32)?;
+            Ok(())
+        }
+        b"named" => entries(line, &mut plant.names, 1, 255, |line, name| {
+            let thing = line.thing(count)?;
+            Ok(Named { name, thing })
+        }),
+        b"link" => entries(line, &mut plant.links, 1, 127, |line, feature| {
+            let (from, to) = line.arrow(count)?;
+            Ok(Link { feature, from, to })
+        }),
+        b"value" => entries(line, &mut plant.readings, 128, 255, |line, feature| {
+            line.reading(feature, count)
+        }),
+        b"role" => entries(line, &mut plant.pairs, 256, 511, |line, role| {
+            let (from, to) = line.arrow(count)?;
+            Ok(Pair { role, from, to })
+        }),
+        _ => Err(Halt::Misread(stop)),
+    }
+}
+
 // Adds what a line says, where it says something.
 fn start(sheet: &mut Sheet, line: &mut Reader<'_>) -> Result<(), Halt>
     ensures adds { OnOk result (Adds sheet.old line.old.rest.now sheet.new) }
@@ -147,19 +140,7 @@ fn start(sheet: &mut Sheet, line: &mut Reader<'_>) -> Result<(), Halt>
     if line.is_at(Class::Digit) {
         return place(sheet, line);
     }
-    let stop = line.stop(Expected::Start);
-    let plant = &mut sheet.plant;
-    match line.take(Class::Letter) {
-        b"plant" => {
-            plant.count = line.number(1, MOST_THINGS as u32)?;
-            Ok(())
-        }
-        b"named" => names(plant, line),
-        b"link" => links(plant, line),
-        b"value" => readings(plant, line),
-        b"role" => pairs(plant, line),
-        _ => Err(Halt::Misread(stop)),
-    }
+    describe(&mut sheet.plant, line)
 }
 
 // Adds what a line without its comment says.

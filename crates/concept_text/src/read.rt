@@ -16,11 +16,10 @@ fn take_line(sheet: &mut Sheet, number: usize, line: &[u8]) -> Result<(), Troubl
     ensures placed { IfErr result (OnLine number line.now) }
 {
     let (said, _) = cut(Class::Said, line);
-    match add_line(sheet, said) {
-        Ok(()) => Ok(()),
-        Err(Halt::Memory) => Err(Trouble::Memory),
-        Err(Halt::Misread(stop)) => Err(Trouble::Misread(stop.in_line(number, said))),
-    }
+    add_line(sheet, said).map_err(|halt| match halt {
+        Halt::Memory => Trouble::Memory,
+        Halt::Misread(stop) => Trouble::Misread(stop.in_line(number, said)),
+    })
 }
 
 // Reads a text line by line, up to the first line that cannot be read.

@@ -57,9 +57,8 @@ impl fmt::Display for Inside<'_> {
 }
 
 fn print_nodes(rt: &HostRuntime, forest: &Forest) -> anyhow::Result<()> {
-    let nodes = (0..forest.len()).filter_map(|place| forest.get(place));
-    for (place, node) in nodes.enumerate() {
-        println!(rt; "{place}: {}", Written(node))?;
+    for (place, node) in forest.as_slice().iter().enumerate() {
+        println!(rt; "{place}: {}", Written(*node))?;
     }
     Ok(())
 }

@@ -3,6 +3,8 @@ use Rattle.std.specs.Prelude.{◌≡◌, ℕ, Bool, true, false, cond, ◌&&◌,
 use Rattle.domain.specs.declared.predicate.Predicate.{Predicate}
 use Rattle.limit_list.specs.declared.limit.Operator.{Operator}
 use Rattle.limit_list.specs.declared.limit.Operator.TheVariants.{AtMost, Below, AtLeast, Above}
+use Rattle.limit_list.specs.declared.limit.Quantity.{Quantity}
+use Rattle.limit_list.specs.declared.limit.Quantity.TheVariants.{Reading, Difference}
 
 -- a value compared with the number of a limit
 abbrev pub compares : Operator → ℤ → ℤ → Bool
@@ -10,6 +12,11 @@ compares AtMost v n = int_le v n
 compares Below v n = int_lt v n
 compares AtLeast v n = int_le n v
 compares Above v n = int_lt n v
+
+-- a limit on a difference is on two readings
+abbrev pub paired : {A : Type 0} → Quantity A → Bool
+paired (Reading x) = false
+paired (Difference x y) = true
 
 -- a limit on one reading compares its value; a limit on two (`paired`) the first less the second
 abbrev pub satisfied : Bool → Operator → ℤ → ℤ → ℤ → Bool

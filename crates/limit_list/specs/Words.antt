@@ -1,5 +1,5 @@
 -- Faults and refusals in words.
-use Rattle.std.specs.Prelude.{ℕ, List, [], ◌∷◌, ◌++◌, codes}
+use Rattle.std.specs.Prelude.{ℕ, List, [], ◌∷◌, ◌++◌, Some, None, Option, codes}
 use Rattle.std.specs.Fmt.{decimal}
 use Rattle.domain.specs.Refusals.{number_of}
 use Rattle.domain.specs.declared.refusal.Refusal.{Refusal}
@@ -34,3 +34,8 @@ reason_text _ = codes ")"
 abbrev pub unanswered_text : Unanswered → List ℕ
 unanswered_text Memory = codes "memory allocation failed"
 unanswered_text (Refused r) = codes "refused (" ++ (decimal (number_of r) ++ (reason_text r ++ 10 ∷ []))
+
+-- an answer that there are no values; of a list of values no text is promised
+abbrev pub answered_text : {V : Type 0} → Option V → Option (List ℕ)
+answered_text None = Some (codes "no whole tenths satisfy all limits" ++ 10 ∷ [])
+answered_text (Some values) = None

@@ -1,8 +1,8 @@
 // What a quantity is compared with.
 ghost use Rattle.std.specs.Prelude.{◌≡◌, true, false, Some, MatchOption};
-ghost use Rattle.limit_list.specs.Limits.{allowed, predicate_of};
+ghost use Rattle.limit_list.specs.Limits.{allowed, paired, predicate_of};
 
-use crate::limit::Operator;
+use crate::limit::{Operator, Quantity};
 use crate::meaning::{constant_of, predicate_of};
 use domain::Predicate;
 
@@ -22,10 +22,12 @@ impl Comparison {
         constant_of(operator, number)?;
         Some(Comparison { operator, number })
     }
-    // The predicate of a limit on one reading, or on the difference of two (`paired`).
-    pub(crate) fn predicate(self, paired: bool) -> Predicate
-        ensures { Some result ≡ predicate_of paired self.operator self.number }
+
+    // The predicate of a limit on this quantity.
+    pub(crate) fn predicate(self, over: Quantity<usize>) -> Predicate
+        ensures { Some result ≡ predicate_of (paired over) self.operator self.number }
     {
+        let paired = matches!(over, Quantity::Difference(..));
         predicate_of(paired, self.operator, self.number).unwrap()
     }
 }

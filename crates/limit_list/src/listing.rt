@@ -61,9 +61,10 @@ fn places<'a>(
 fn row_over(over: Quantity<usize>, comparison: Comparison) -> Row
     ensures { result ≡ row_over over comparison.operator comparison.number }
 {
+    let predicate = comparison.predicate(over);
     match over {
-        Quantity::Reading(place) => Row::new(comparison.predicate(false), place, place),
-        Quantity::Difference(first, second) => Row::new(comparison.predicate(true), first, second),
+        Quantity::Reading(place) => Row::new(predicate, place, place),
+        Quantity::Difference(first, second) => Row::new(predicate, first, second),
     }
 }
 

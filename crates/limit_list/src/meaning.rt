@@ -36,14 +36,12 @@ pub fn predicate_of(paired: bool, operator: Operator, number: i32) -> Option<Pre
     ensures value { result ≡ predicate_of paired operator number }
     ensures means { MatchOption result (allowed operator number ≡ false) (StandsFor paired operator number) }
 {
-    match constant_of(operator, number) {
-        None => None,
-        Some(constant) => Some(Predicate {
-            kind: TENTHS,
-            form: form_of(paired, operator),
-            constant,
-        }),
-    }
+    let constant = constant_of(operator, number)?;
+    Some(Predicate {
+        kind: TENTHS,
+        form: form_of(paired, operator),
+        constant,
+    })
 }
 
 fn form_of(paired: bool, operator: Operator) -> u32

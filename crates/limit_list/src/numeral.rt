@@ -1,4 +1,4 @@
-// Whole numbers as they are written.
+// Whole numbers as they are written, and comparisons with them.
 ghost use Rattle.std.specs.Prelude.{◌≡◌, true, false, pos, neg_ℤ, ◌≤ℤ◌, if◌then◌else◌, MatchOption, ◌==◌};
 ghost use Rattle.text.specs.Bytes.{past_run};
 ghost use Rattle.limit_list.specs.Spelling.{head, unsigned, numbered, number_of};
@@ -32,7 +32,7 @@ fn signed(negative: bool, number: i32) -> i32
 
 // The comparison by this operator with the number at the front, and what follows it, if a number stands there that may follow the
 // operator.
-pub fn comparison(operator: Operator, s: &[u8]) -> Option<(Comparison, &[u8])>
+pub fn comparison_at(operator: Operator, s: &[u8]) -> Option<(Comparison, &[u8])>
     ensures { MatchOption result (numbered operator s.now ≡ false) (λ p. (numbered operator s.now ≡ true) × (p.0.operator ≡ operator) × (p.0.number ≡ number_of s.now) × (p.1.now ≡ past_run Class.Digit (unsigned s.now))) }
 {
     let (digits, rest) = cut(Class::Digit, after_sign(s));

@@ -5,8 +5,8 @@ ghost use Rattle.limit_list.specs.Spelling.{ended, head, said, told, Fitting, st
 
 use crate::fault::{Expected, Fault, Stop};
 use crate::limit::{Limit, Operator, Quantity};
-use crate::numeral::comparison;
-use text::{Class, after, bare, cut, first};
+use crate::numeral::comparison_at;
+use text::{Class, bare, cut, first};
 
 fn is_ended(s: &[u8]) -> bool
     ensures { result ≡ ended s.now }
@@ -42,7 +42,7 @@ fn from_number<'a>(
 ) -> Result<Option<Limit<'a>>, Stop>
     ensures { told result ≡ from_number (term_of quantity.entry) operator s.now }
 {
-    let Some((comparison, rest)) = comparison(operator, s) else {
+    let Some((comparison, rest)) = comparison_at(operator, s) else {
         return stop(Expected::Number(operator), s);
     };
     let limit = Limit {
@@ -98,10 +98,9 @@ fn from_second<'a>(name: &'a [u8], s: &'a [u8]) -> Result<Option<Limit<'a>>, Sto
 fn from_first<'a>(name: &'a [u8], s: &'a [u8]) -> Result<Option<Limit<'a>>, Stop>
     ensures { told result ≡ from_first name.now s.now }
 {
-    if first(s) == b'-' {
-        from_second(name, bare(after(s, 1)))
-    } else {
-        from_operator(Quantity::Reading(name), Expected::MinusOrOperator, s)
+    match s {
+        [b'-', rest @ ..] => from_second(name, bare(rest)),
+        _ => from_operator(Quantity::Reading(name), Expected::MinusOrOperator, s),
     }
 }
 

@@ -42,7 +42,8 @@ impl fmt::Display for Degrees {
     }
 }
 
-// The name of a reading, with a replacement character for what is not UTF-8.
+// The name of a reading, with a replacement character for what is not UTF-8. It is written chunk by chunk, since a Display has no
+// allocator to build the whole name in.
 fn write_name<W: fmt::Write>(name: &[u8], f: &mut fmt::Formatter<W>) -> fmt::Result {
     for chunk in name.utf8_chunks() {
         f.write_str(chunk.valid())?;
@@ -62,6 +63,10 @@ pub struct Answered<'a, 't> {
 }
 
 impl fmt::Display for Answered<'_, '_> {
+    ghost use Rattle.limit_list.specs.Words.{answered_text};
+
+    ghost output = { λ a. answered_text a.values.now };
+
     fn fmt<W: fmt::Write>(&self, f: &mut fmt::Formatter<W>) -> fmt::Result {
         let Some(values) = self.values else {
             return writeln!(f, "no whole tenths satisfy all limits");
@@ -75,6 +80,7 @@ impl fmt::Display for Answered<'_, '_> {
     }
 }
 
+// The text of a refusal ends with a line feed, since the program has always printed it so.
 impl fmt::Display for Unanswered {
     ghost use Rattle.std.specs.Prelude.{Some};
     ghost use Rattle.limit_list.specs.Words.{unanswered_text};

@@ -25,6 +25,8 @@ pub struct Sheet<D> {
     pub(crate) opened: u32,
     ghost few_objects: { objects ≤ 16 },
     ghost few_opened: { opened ≤ 65535 },
+    ghost few_open: { array_vec_len trials ≤ 8 },
+    ghost few: { array_vec_len statements ≤ 320 },
     // nothing is stated before setting up
     ghost ready: { array_vec_len statements ≤ 320 * objects },
     ghost held: { sound forest objects statements.items ≡ true },

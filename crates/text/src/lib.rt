@@ -1,4 +1,4 @@
-// What every reader of a text of lines shares: the bytes at its front, whole numbers, numbered lines, and where a fault is.
+// What every reader of a text of lines shares: the bytes at its front, whole numbers, lines, and where a fault is.
 #![tactic(auto)]
 
 mod bytes;

@@ -31,6 +31,8 @@ invariant_of-self g c =
     record {
       few_objects = s.few_objects;
       few_opened = s.few_opened;
+      few_open = omega (arith, c.truncate.ensures.len, s.few_open);
+      few = omega (arith, c.truncate-2.ensures.len, s.few);
       ready = omega (arith, c.truncate-2.ensures.len, s.ready);
       held =
           dropped_sound s.forest c.cut-self.result s.objects xs c.truncate-2.new.self.items mark c.sum_up-filled.result s.held left

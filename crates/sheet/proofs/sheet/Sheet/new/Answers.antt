@@ -10,6 +10,8 @@ invariant_of-result g c =
     record {
       few_objects = omega arith;
       few_opened = omega arith;
+      few_open = omega (arith, ap length c.new-3.ensures);
+      few = omega (arith, ap length c.new-2.ensures);
       ready = omega (arith, ap length c.new-2.ensures);
       held = ap (sound c.new.result 0) c.new-2.ensures ∙ none_sound c.new.result 0 (ap length c.new.ensures);
       marked = ap₂ (rising 0) (ap length c.new-2.ensures) c.new-3.ensures;

@@ -12,6 +12,8 @@ invariant_of-self-2 g c =
     record {
       few_objects = s.few_objects;
       few_opened = omega arith;
+      few_open = search rules;
+      few = s.few;
       ready = s.ready;
       held = s.held;
       marked =

@@ -19,6 +19,8 @@ invariant_of-self g c =
     record {
       few_objects = s.few_objects;
       few_opened = s.few_opened;
+      few_open = s.few_open;
+      few = omega (arith, c.push.ensures.len, less);
       ready = omega (arith, c.push.ensures.len, c.requires.ready);
       held =
           ap (sound s.forest s.objects) c.push.ensures.items

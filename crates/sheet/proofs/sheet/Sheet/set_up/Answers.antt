@@ -10,6 +10,8 @@ invariant_of-self g c =
     record {
       few_objects = omega arith;
       few_opened = s.few_opened;
+      few_open = s.few_open;
+      few = s.few;
       ready = omega arith;
       held = unstated_sound s.forest s.objects c.args.objects s.statements.items none s.held;
       marked = s.marked;

@@ -73,6 +73,8 @@ invariant_of-self g c =
     record {
       few_objects = s.few_objects;
       few_opened = s.few_opened;
+      few_open = s.few_open;
+      few = omega (arith, c.push.ensures.len, less);
       ready = omega (arith, c.push.ensures.len, some_object (view s) c.args.object here);
       held =
           ap (sound c.in-Ok.grown.0 s.objects) c.push.ensures.items

@@ -1,6 +1,6 @@
 use Rattle.std.proofs.Common.{◌≡◌, rules}
 use Rattle.limit_list.specs.Spelling.{number_of}
-use Rattle.limit_list.proofs.numeral.comparison.Goals as goal
+use Rattle.limit_list.proofs.numeral.comparison_at.Goals as goal
 
 pub returns : goal.returns
 returns c =
