@@ -6,3 +6,4 @@ pub mod Mentions
 pub mod Places
 pub mod Lines
 pub mod Standing
+pub mod Stopping

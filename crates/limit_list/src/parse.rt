@@ -118,6 +118,14 @@ fn from_start<'a>(s: &'a [u8]) -> Result<Option<Limit<'a>>, Stop>
     from_first(name, bare(rest))
 }
 
+// What a line says, or where its reading stops.
+fn read<'a>(line: &'a [u8]) -> Result<Option<Limit<'a>>, Stop>
+    ensures read { told result ≡ reads line.now }
+    ensures within { IfErr result (λ stop. stop.left ≤ length line.now) }
+{
+    from_start(bare(line))
+}
+
 // What the line with this number says, or where it cannot be read on. A line that spells something is read as what it spells,
 // and a fault is found in no other line.
 pub fn parse_line<'a>(number: usize, line: &'a [u8]) -> Result<Option<Limit<'a>>, Fault>
@@ -126,5 +134,5 @@ pub fn parse_line<'a>(number: usize, line: &'a [u8]) -> Result<Option<Limit<'a>>
     ensures fitting { IfOk result (λ l. Fitting (said l)) }
     ensures inside { IfErr result (λ f. (1 ≤ f.column) × (f.column ≤ length line.now + 1)) }
 {
-    from_start(bare(line)).map_err(|stop| stop.in_line(number, line))
+    read(line).map_err(|stop| stop.in_line(number, line))
 }
