@@ -1,5 +1,5 @@
 // One side's share of a call of `solve`.
-ghost use Rattle.std.specs.Prelude.{◌≡◌, ℕ, ◌<◌, ◌≤◌, true, length, slice_index};
+ghost use Rattle.std.specs.Prelude.{◌≡◌, ℕ, ◌<◌, ◌≤◌, true, [], length, slice_index};
 ghost use Rattle.domain.specs.Solving.{Accepted};
 ghost use Rattle.pair.specs.Split.{number, on, side_kinds, moved, side_rows, Ranks, PutBack, Shared, Answers};
 
@@ -27,18 +27,53 @@ pub struct Share {
 }
 
 impl Share {
+    // A share is filled where it lies: parts that are made first and then moved in cost a full `solve` a fifth more
+    // instructions.
     pub fn of(side: Side, kinds: &[u32], rows: &[Row]) -> Share
         requires variables { length kinds.now ≤ 512 }
         requires rows { length rows.now ≤ 256 }
         ensures { Shared (number side) kinds.now rows.now result }
     {
-        let (kinds, places) = deal_kinds(side, kinds);
-        let rows = deal_rows(side, rows, &places);
-        Share {
+        let mut share = Share {
             side,
-            kinds,
-            rows,
-            places,
+            kinds: Kinds::new(),
+            rows: ArrayVec::new(),
+            places: Places::new(),
+        };
+        share.deal_kinds(kinds);
+        share.deal_rows(rows);
+        share
+    }
+
+    // Adds the kinds of the side's variables as that side knows them, and the places.
+    fn deal_kinds(&mut self, kinds: &[u32])
+        requires few { length kinds.now ≤ 512 }
+        requires none { (self.old.kinds.items ≡ []) × (self.old.places.items ≡ []) }
+        ensures kinds { self.new.kinds.items ≡ side_kinds (number self.old.side) kinds.now }
+        ensures ranks { Ranks (number self.old.side) kinds.now self.new.places.items }
+        ensures listed { length self.new.places.items ≡ length kinds.now }
+        ensures kept { (self.new.side ≡ self.old.side) × (self.new.rows ≡ self.old.rows) }
+    {
+        for kind in kinds {
+            self.places.push(self.kinds.len());
+            if self.side.has(*kind) {
+                self.kinds.push(*kind / 2);
+            }
+        }
+    }
+
+    // Adds the side's rows as that side knows them.
+    fn deal_rows(&mut self, rows: &[Row])
+        requires few { length rows.now ≤ 256 }
+        requires none { self.old.rows.items ≡ [] }
+        ensures rows { self.new.rows.items ≡ side_rows (number self.old.side) self.old.places.items rows.now }
+        ensures kept { (self.new.side ≡ self.old.side) × ((self.new.kinds ≡ self.old.kinds) × (self.new.places ≡ self.old.places)) }
+    {
+        for row in rows {
+            if self.side.has(row.predicate.kind) {
+                let moved = moved_row(&self.places, *row);
+                self.rows.push(moved);
+            }
         }
     }
 
@@ -70,38 +105,6 @@ impl Share {
             }
         }
     }
-}
-
-// The kinds of the side's variables as that side knows them, and the places.
-fn deal_kinds(side: Side, kinds: &[u32]) -> (Kinds, Places)
-    requires { length kinds.now ≤ 512 }
-    ensures kinds { result.0.items ≡ side_kinds (number side) kinds.now }
-    ensures ranks { Ranks (number side) kinds.now result.1.items }
-    ensures listed { length result.1.items ≡ length kinds.now }
-{
-    let mut halves = ArrayVec::new();
-    let mut places = ArrayVec::new();
-    for kind in kinds {
-        places.push(halves.len());
-        if side.has(*kind) {
-            halves.push(*kind / 2);
-        }
-    }
-    (halves, places)
-}
-
-// The side's rows as that side knows them.
-fn deal_rows(side: Side, rows: &[Row], places: &[usize]) -> ArrayVec<Row, MOST_ROWS>
-    requires { length rows.now ≤ 256 }
-    ensures { result.items ≡ side_rows (number side) places.now rows.now }
-{
-    let mut dealt = ArrayVec::new();
-    for row in rows {
-        if side.has(row.predicate.kind) {
-            dealt.push(moved_row(places, *row));
-        }
-    }
-    dealt
 }
 
 // A row as its side knows it. A second place that names nothing becomes 0.
