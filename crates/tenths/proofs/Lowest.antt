@@ -8,7 +8,7 @@ use Rattle.std.proofs.lemmas.Bool.{cases_eq}
 use Rattle.std.specs.List.{All}
 use Rattle.tenths.specs.declared.links.Link.{Link}
 use Rattle.tenths.specs.Differences.{at, Potential, Under}
-use Rattle.tenths.specs.Relaxing.{Low, Rounds, started}
+use Rattle.tenths.specs.Relaxing.{Low, Rounds, Lowest, started}
 use Rattle.tenths.proofs.Settling.{ceiling}
 
 module _ (n : ℕ) where
@@ -34,8 +34,9 @@ module _ (n : ℕ) where
       ]
 
   -- as the bounds are made
-  pub is_started : (zeros some all : List ℕ) → n ≤ 512 → zeros ≡ replicate 513 0 → some ≡ take n zeros → all ≡ some ++ 32768 ∷ [] → all ≡ started n
-  is_started zeros some all few a b c = c ∙ ap (λ (xs : List ℕ). xs ++ 32768 ∷ []) (b ∙ ap (take n) a ∙ take-replicate n 513 0 (omega arith))
+  pub is_started : (none some all : List ℕ) → n ≤ 512 → none ≡ [] → some ≡ none ++ take n (replicate 512 0) → all ≡ some ++ 32768 ∷ [] → all ≡ started n
+  is_started none some all few a b c =
+      c ∙ ap (λ (xs : List ℕ). xs ++ 32768 ∷ []) (b ∙ (ap (λ (xs : List ℕ). xs ++ take n (replicate 512 0)) a ∙ take-replicate n 512 0 (omega arith)))
 
   -- the end of rounds over these links, from these bounds
   module _ (links given : List Link) (ds after : List ℕ) (same : given ≡ links) (e : ds ≡ started n) (size : length after ≡ length ds) (r : Bool) (end : Rounds (length ds - 1) given ds after r) where
@@ -66,3 +67,12 @@ module _ (n : ℕ) where
             ap (at after) last ∙ zero,
             All-from_get_or (λ b. b < 65536) after 0 (λ x h. let low = ended.1 v p x (omega (arith, last)) in let top = ceiling n links v p x (omega (arith, last)) in omega arith),
           )
+
+-- what is told of bounds that started over n variables
+pub lowest_over :
+    (n : ℕ) (links given : List Link) (ds after : List ℕ) (r b : Bool) → given ≡ links → ds ≡ started n → r ≡ b → Lowest (length ds - 1) given after r
+    → Lowest n links after b
+lowest_over n links given ds after r b same e is told =
+    let spots : length (started n) - 1 ≡ n = omega (arith, started_size n) in
+    let here : Lowest (length (started n) - 1) links after b = rw (same, e, is) at told in
+    rw spots at here

@@ -1,7 +1,6 @@
 -- Relaxation of difference constraints: lower bounds are raised link by link, in rounds.
-use Rattle.std.specs.Prelude.{◌≡◌, ℕ, ◌+◌, ◌-◌, ◌<◌, ◌≤◌, min, Bool, true, false, List, [], ◌∷◌, ◌++◌, length, get_or, replicate, slice_index_or, slice_set, Option, Some, None}
+use Rattle.std.specs.Prelude.{◌≡◌, ℕ, ◌+◌, ◌-◌, ◌<◌, ◌≤◌, min, Bool, true, false, List, [], ◌∷◌, ◌++◌, length, get_or, replicate, slice_index_or, slice_set}
 use Rattle.std.specs.List.{All}
-use Rattle.arrayvec.specs.ArrayVec.{ArrayVec}
 use Rattle.tenths.specs.declared.links.Link.{Link}
 use Rattle.tenths.specs.Differences.{at, Keeps, Potential, Under}
 
@@ -56,6 +55,6 @@ Rounds n links before after true = All (Keeps (at after)) links × Under links n
 Rounds n links before after false = (v : ℕ → ℕ) → Potential n links v → ⊥
 
 -- the lowest potential of all, or none
-abbrev pub Lowest : ℕ → List Link → Option (ArrayVec ℕ) → Type 0
-Lowest n links (Some ds) = Potential n links (at ds.items) × Under links n ds.items
-Lowest n links None = (v : ℕ → ℕ) → Potential n links v → ⊥
+abbrev pub Lowest : ℕ → List Link → List ℕ → Bool → Type 0
+Lowest n links ds true = Potential n links (at ds) × Under links n ds
+Lowest n links ds false = (v : ℕ → ℕ) → Potential n links v → ⊥

@@ -5,8 +5,9 @@ ghost use Rattle.domain.specs.Solving.{Accepted};
 ghost use Rattle.tenths.specs.Rows.{Chooses, value};
 ghost use Rattle.tenths.specs.Tenths.{tenths};
 
-use crate::links::links_of;
-use crate::relax::lowest;
+use crate::links::fill_links;
+use crate::relax::Relaxation;
+use arrayvec::ArrayVec;
 use domain::{Outcome, Row};
 
 // Writes the lowest choice to the front of `values`, or nothing where there is none.
@@ -14,14 +15,14 @@ pub fn choose(kinds: &[u32], rows: &[Row], values: &mut [i32]) -> Outcome
     requires { Accepted tenths kinds.now rows.now (length values.old) }
     ensures { Chooses kinds.now rows.now values.old values.new result }
 {
-    let links = links_of(rows, kinds.len());
-    match lowest(&links, kinds.len()) {
-        Some(bounds) => {
-            write_values(&bounds[..kinds.len()], values);
-            Outcome::Solved
-        }
-        None => Outcome::Unsolvable,
+    let mut links = ArrayVec::new();
+    fill_links(rows, kinds.len(), &mut links);
+    let mut relaxation = Relaxation::start(&links, kinds.len());
+    if !relaxation.lowest() {
+        return Outcome::Unsolvable;
     }
+    write_values(&relaxation.bounds[..kinds.len()], values);
+    Outcome::Solved
 }
 
 // Writes the values that the bounds stand for to the front of `values`.

@@ -1,5 +1,5 @@
 // Rows as links: one kind of constraint, on the difference of two spots.
-ghost use Rattle.std.specs.Prelude.{◌≡◌, ◌≤◌, pos, negsuc, ◌+ℤ◌, ◌≤ℤ◌, length};
+ghost use Rattle.std.specs.Prelude.{◌≡◌, ◌≤◌, [], pos, negsuc, ◌+ℤ◌, ◌≤ℤ◌, length};
 ghost use Rattle.std.specs.List.{All, AllZip};
 ghost use Rattle.tenths.specs.Rows.{Placed, Stands};
 
@@ -46,15 +46,14 @@ fn link_of(row: Row, zero: usize) -> Link
     }
 }
 
-// The link of each row, in order.
-pub fn links_of(rows: &[Row], zero: usize) -> ArrayVec<Link, MOST_ROWS>
+// Puts the link of each row, in order, into a table that holds none. A table that is returned would be copied.
+pub fn fill_links(rows: &[Row], zero: usize, links: &mut ArrayVec<Link, MOST_ROWS>)
     requires few { length rows.now ≤ 256 }
     requires placed { All (Placed zero) rows.now }
-    ensures { AllZip (Stands zero) rows.now result.items }
+    requires none { links.old.items ≡ [] }
+    ensures { AllZip (Stands zero) rows.now links.new.items }
 {
-    let mut links = ArrayVec::new();
     for row in rows {
         links.push(link_of(*row, zero));
     }
-    links
 }

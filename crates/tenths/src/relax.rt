@@ -1,5 +1,5 @@
 // Lower bounds for the spots, raised link by link in rounds until every link is kept.
-ghost use Rattle.std.specs.Prelude.{◌≡◌, ◌+◌, ◌-◌, ◌<◌, ◌≤◌, length, Decides, IfSome};
+ghost use Rattle.std.specs.Prelude.{◌≡◌, ◌+◌, ◌-◌, ◌<◌, ◌≤◌, length, Decides};
 ghost use Rattle.std.specs.List.{All, Contains};
 ghost use Rattle.tenths.specs.Differences.{at, Fair, Under};
 ghost use Rattle.tenths.specs.Relaxing.{Low, Relaxes, Sweep, Rounds, Lowest, started};
@@ -7,6 +7,7 @@ ghost use Rattle.tenths.specs.Relaxing.{Low, Relaxes, Sweep, Rounds, Lowest, sta
 use crate::MOST_SPOTS;
 use crate::links::Link;
 use arrayvec::ArrayVec;
+use domain::lists::MOST_VARIABLES;
 
 // A weight is stored this much higher than it is.
 const SHIFT: u32 = 131_072;
@@ -17,11 +18,14 @@ const CEILING: u32 = 65_536;
 // What stands for the number 0.
 const ZERO: u32 = 32_768;
 
+// The first bounds of the variables.
+static FIRST: [u32; MOST_VARIABLES] = [0; MOST_VARIABLES];
+
 // A lower bound for each spot, and the links that raise them. The last spot stands for the number 0.
 #[derive(Drop)]
-struct Relaxation<'a> {
+pub struct Relaxation<'a> {
     links: &'a [Link],
-    bounds: ArrayVec<u32, MOST_SPOTS>,
+    pub bounds: ArrayVec<u32, MOST_SPOTS>,
     ghost low: { Low bounds.items },
     ghost some: { 0 < length bounds.items },
     ghost fair: { All (Fair (length bounds.items)) links.now },
@@ -30,14 +34,15 @@ struct Relaxation<'a> {
 
 impl<'a> Relaxation<'a> {
     // The bounds that the rounds start from.
-    fn start(links: &'a [Link], variables: usize) -> Relaxation<'a>
+    pub fn start(links: &'a [Link], variables: usize) -> Relaxation<'a>
         requires few { variables ≤ 512 }
         requires fair { All (Fair (variables + 1)) links.now }
         ensures links { result.links.now ≡ links.now }
         ensures bounds { result.bounds.items ≡ started variables }
     {
-        let mut bounds = ArrayVec::from([0; MOST_SPOTS]);
-        bounds.truncate(variables);
+        let mut bounds = ArrayVec::new();
+        // The table is empty, so there is room for them.
+        let _ = bounds.try_extend_from_slice(&FIRST[..variables]);
         bounds.push(ZERO);
         Relaxation { links, bounds }
     }
@@ -82,6 +87,15 @@ impl<'a> Relaxation<'a> {
         }
         false
     }
+
+    // Raises the first bounds to the lowest potential of the links, and tells whether there is one.
+    pub fn lowest(&mut self) -> bool
+        requires { self.old.bounds.items ≡ started (length self.old.bounds.items - 1) }
+        ensures spots { length self.new.bounds.items ≡ length self.old.bounds.items }
+        ensures lowest { Lowest (length self.old.bounds.items - 1) self.old.links.now self.new.bounds.items result }
+    {
+        self.settle() && in_range(&self.bounds)
+    }
 }
 
 // Whether the bounds are values of their spots: the last is the number 0, and none reaches the ceiling.
@@ -90,19 +104,4 @@ fn in_range(bounds: &[u32]) -> bool
     ensures { Decides result ((at bounds.now (length bounds.now - 1) ≡ 32768) × All (λ b. b < 65536) bounds.now) }
 {
     bounds[bounds.len() - 1] == ZERO && bounds.iter().all(|bound| *bound < CEILING)
-}
-
-// The lowest potential of the links over so many variables, if there is one.
-pub fn lowest(links: &[Link], variables: usize) -> Option<ArrayVec<u32, MOST_SPOTS>>
-    requires few { variables ≤ 512 }
-    requires fair { All (Fair (variables + 1)) links.now }
-    ensures spots { IfSome result (λ bounds. length bounds.items ≡ variables + 1) }
-    ensures lowest { Lowest variables links.now result }
-{
-    let mut relaxation = Relaxation::start(links, variables);
-    if relaxation.settle() && in_range(&relaxation.bounds) {
-        Some(relaxation.bounds)
-    } else {
-        None
-    }
 }

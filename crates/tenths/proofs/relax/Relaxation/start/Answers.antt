@@ -1,4 +1,4 @@
-use Rattle.std.proofs.Common.{◌≡◌, ◌-◌, length, arith}
+use Rattle.std.proofs.Common.{◌≡◌, ◌-◌, ◌++◌, length, replicate, take, arith, rules}
 use Rattle.tenths.specs.Relaxing.{started}
 use Rattle.tenths.proofs.Lowest.{started_size, started_low, started_under, is_started}
 use Rattle.tenths.proofs.relax.Relaxation.start.Goals as goal
@@ -7,7 +7,8 @@ pub invariant_of-result : goal.invariant_of-result
 invariant_of-result c =
     let n = c.args.variables in
     let spots : length (started n) - 1 ≡ n = omega (arith, started_size n) in
-    rw (is_started n c.from-bounds.result.items c.truncate.new.self.items c.push.new.self.items c.requires.few c.from-bounds.ensures.0 c.truncate.ensures.items c.push.ensures.items) (record {
+    let zeros : c.try_extend_from_slice.new.self.items ≡ c.new-bounds.result.items ++ take n (replicate 512 0) = search rules in
+    rw (is_started n c.new-bounds.result.items c.try_extend_from_slice.new.self.items c.push.new.self.items c.requires.few c.new-bounds.ensures zeros c.push.ensures.items) (record {
       low = started_low n;
       some = omega (arith, started_size n);
       fair = rw (started_size n) c.requires.fair;
@@ -16,4 +17,6 @@ invariant_of-result c =
 
 pub returns-clause-bounds : goal.returns-clause-bounds
 returns-clause-bounds c =
-    is_started c.args.variables c.from-bounds.result.items c.truncate.new.self.items c.push.new.self.items c.requires.few c.from-bounds.ensures.0 c.truncate.ensures.items c.push.ensures.items
+    let n = c.args.variables in
+    let zeros : c.try_extend_from_slice.new.self.items ≡ c.new-bounds.result.items ++ take n (replicate 512 0) = search rules in
+    is_started n c.new-bounds.result.items c.try_extend_from_slice.new.self.items c.push.new.self.items c.requires.few c.new-bounds.ensures zeros c.push.ensures.items

@@ -3,7 +3,7 @@ use Rattle.std.proofs.lemmas.List.{length-take-le, take_more}
 use Rattle.std.proofs.lemmas.Slice.Zip.{AllZip-long, all_zipped_more}
 use Rattle.domain.proofs.Failing.{no_row}
 use Rattle.tenths.specs.Rows.{Stands}
-use Rattle.tenths.proofs.links.links_of.Goals as goal
+use Rattle.tenths.proofs.links.fill_links.Goals as goal
 
 pub push-requires : goal.push-requires
 push-requires c =

@@ -2,7 +2,7 @@
 use Rattle.std.proofs.Common.{take}
 use Rattle.std.specs.List.{AllZip}
 use Rattle.tenths.specs.Rows.{Stands}
-use Rattle.tenths.proofs.links.links_of.Given as goal
+use Rattle.tenths.proofs.links.fill_links.Given as goal
 
 abbrev pub invariant-loop-row : goal.invariant-loop-row
 invariant-loop-row l = AllZip (Stands l.zero) (take l.row-index l.rows) l.links.items
