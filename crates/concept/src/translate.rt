@@ -7,7 +7,7 @@ ghost use Rattle.concept.specs.Chains.{steps};
 ghost use Rattle.concept.specs.Translating.{constraint_of, term_of};
 
 use crate::fault::PredicateFault;
-use crate::fit::{fit, predicate_at};
+use crate::fit::{fit_with_arity, predicate_at};
 use crate::node::Node;
 use crate::term::{Constraint, Term};
 use domain::Domain;
@@ -22,11 +22,11 @@ fn constraint_of<D: Domain>(
     ensures told { IfOk result (λ k. k ≡ constraint_of (D.meaning domain.now) kinds.now node) }
 {
     let predicate = predicate_at(kinds, node);
-    let complement = fit(domain, predicate, node.v.first == 0)?;
+    let (complement, arity) = fit_with_arity(domain, predicate, node.v.first == 0)?;
     Ok(Constraint {
         predicate,
         complement,
-        arity: domain.arity(predicate),
+        arity,
         u: node.u,
         v: node.v,
     })
