@@ -49,9 +49,6 @@ module _ (n : ℕ) where
         let here : Rounds (length (started n) - 1) links (started n) after b = rw (same, e, is) at end in
         rw spots at here
 
-    pub unsettled : r ≡ false → (v : ℕ → ℕ) → Potential n links v → ⊥
-    unsettled f = over false f
-
     module _ (t : r ≡ true) where
       ended : Rounds n links (started n) after true
       ended = over true t
