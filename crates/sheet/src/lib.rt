@@ -10,6 +10,9 @@ pub mod statement;
 pub mod totals;
 pub mod trial;
 
+// what a sheet keeps its statements and trials in
+mod stack;
+
 // the calls, by what they are about
 mod comparing;
 mod counting;

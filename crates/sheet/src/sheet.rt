@@ -1,12 +1,12 @@
 // The sheet.
 ghost use Rattle.std.specs.Prelude.{◌≡◌, ℕ, ◌*◌, ◌≤◌, true};
-ghost use Rattle.arrayvec.specs.ArrayVec.{array_vec_len};
 ghost use Rattle.sheet.specs.Layout.{sound, rising};
+ghost use Rattle.sheet.specs.Stacks.{height};
 
+use crate::stack::Stack;
 use crate::statement::Stored;
 use crate::trial::Trial;
 use crate::trials::MOST_OPEN;
-use arrayvec::ArrayVec;
 use concept::forest::Forest;
 
 // A sheet (an ABox with a history of trials): what a technician has written down of a plant.
@@ -19,16 +19,16 @@ pub struct Sheet<D> {
     pub(crate) kinds: [u32; 128],
     pub(crate) forest: Forest,
     // those in force, oldest first: each concept has one of the 256 nodes, and 64 are no concepts
-    pub(crate) statements: ArrayVec<Stored, 320>,
+    pub(crate) statements: Stack<Stored, 320>,
     // the open ones, oldest first
-    pub(crate) trials: ArrayVec<Trial, MOST_OPEN>,
+    pub(crate) trials: Stack<Trial, MOST_OPEN>,
     pub(crate) opened: u32,
     ghost few_objects: { objects ≤ 16 },
     ghost few_opened: { opened ≤ 65535 },
-    ghost few_open: { array_vec_len trials ≤ 8 },
-    ghost few: { array_vec_len statements ≤ 320 },
+    ghost few_open: { height trials ≤ 8 },
+    ghost few: { height statements ≤ 320 },
     // nothing is stated before setting up
-    ghost ready: { array_vec_len statements ≤ 320 * objects },
+    ghost ready: { height statements ≤ 320 * objects },
     ghost held: { sound forest objects statements.items ≡ true },
-    ghost marked: { rising 0 (array_vec_len statements) trials.items ≡ true },
+    ghost marked: { rising 0 (height statements) trials.items ≡ true },
 }

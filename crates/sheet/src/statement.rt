@@ -25,7 +25,7 @@ pub enum Stored {
     Compare(Predicate, Reading, Reading),
 }
 
-// What lies in the places of a sheet that hold no statement. It says nothing of a plant, since objects begin at 1.
+// What lies in the places of a new sheet, until a statement is written there. It says nothing of a plant, since objects begin at 1.
 impl Default for Stored {
     ghost is_default = { λ stored. stored ≡ Apart 0 0 };
 

@@ -1,14 +1,14 @@
 // Making a sheet, and its trials.
 ghost use Rattle.std.specs.Prelude.{◌≡◌, ℕ, ◌<◌, IfSome, IfOk};
-ghost use Rattle.arrayvec.specs.ArrayVec.{array_vec_len};
 ghost use Rattle.sheet.specs.Views.{dropped, how_many_close, kept, new_view, open_refusal, trial_place, with_trial};
 ghost use Rattle.sheet.specs.Showing.{view, Acts};
+ghost use Rattle.sheet.specs.Stacks.{height};
 
 use crate::counting::sum_up;
 use crate::refusal::Refusal;
 use crate::sheet::Sheet;
+use crate::stack::Stack;
 use crate::trial::{Token, Trial};
-use arrayvec::ArrayVec;
 use concept::forest::Forest;
 use domain::Domain;
 
@@ -26,8 +26,8 @@ impl<D: Domain> Sheet<D> {
             objects: 0,
             kinds: [0; 128],
             forest: Forest::new(),
-            statements: ArrayVec::new(),
-            trials: ArrayVec::new(),
+            statements: Stack::new(),
+            trials: Stack::new(),
             opened: 0,
         }
     }
@@ -54,9 +54,12 @@ impl<D> Sheet<D> {
     // The place of the trial of this number among the open ones.
     fn place_of(&self, number: u32) -> Option<usize>
         ensures first { result ≡ trial_place (view self.now) number }
-        ensures within { IfSome result (λ i. i < array_vec_len self.now.trials) }
+        ensures within { IfSome result (λ i. i < height self.now.trials) }
     {
-        self.trials.iter().position(|trial| trial.number == number)
+        self.trials
+            .as_slice()
+            .iter()
+            .position(|trial| trial.number == number)
     }
 
     // Closes the trial and all opened after it, and says how many closed. What was stated inside remains.
@@ -87,7 +90,7 @@ impl<D> Sheet<D> {
             return 0;
         };
         let closed = self.trials.len() - place;
-        let mark = self.trials[place].mark;
+        let mark = self.trials.as_slice()[place].mark;
         self.trials.truncate(place);
         self.statements.truncate(mark);
         let filled = sum_up(self.statements.as_slice()).nodes as usize;
